@@ -1,0 +1,3 @@
+-- The laws of `width`. Assumes nothing.
+pub mod Differences
+pub mod Widths

@@ -1,0 +1,3 @@
+-- The definitions of `width`. Assumes nothing.
+pub mod Sizes
+pub mod Numbers
