@@ -1,0 +1,12 @@
+-- `flags::unpack` meets its contract. Assumes nothing.
+use native.Mathlib.Nat.{div-one}
+use Rattle.flags.proofs.unpack.Statement.{statement}
+use Rattle.flags.proofs.unpack.Tie as tie
+use Rattle.flags.specs.Word.{bitAt, flagsOf}
+
+returns : tie.Need-returns
+unfolding bitAt flagsOf
+returns c = rw div-one
+
+pub unpack-spec : {M : Type 1} → statement M
+unpack-spec = tie.close (tie.spec returns)

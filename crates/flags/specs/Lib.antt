@@ -1,0 +1,4 @@
+-- The definitions of `flags`. Assumes nothing.
+pub mod Word
+pub mod Conditions
+pub mod Results
