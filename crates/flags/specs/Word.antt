@@ -1,10 +1,10 @@
 -- The flags word: CF bit 0, PF 2, AF 4, ZF 6, SF 7, DF 10, OF 11; bit 1 is always set; all others are clear. Assumes nothing.
 use mathlib.Core.Path.{_≡_}
 use mathlib.Core.Bool.{Bool, _&&_}
-use Prim.Native.Nat.{ℕ, _+_, _*_, _/_, _%_, _^_, _<_}
+use Prim.Native.Nat.{ℕ, _+_, _*_, _%_, _^_, _<_}
 use lib.Dec.{eqb}
 use lib.Bits.{bitAnd}
-use Rattle.width.specs.Numbers.{bit}
+use Rattle.width.specs.Numbers.{bit, bitAt}
 use Rattle.flags.specs.declared.Flags.{Flags}
 
 -- the flags word of the flags
@@ -18,10 +18,6 @@ wordOf f =
 pub record Word (f : Flags) (r : ℕ) : Type 0 where
   pub is : r ≡ wordOf f
   pub below : r < 2 ^ 12
-
--- one bit of a number
-unfoldable pub bitAt : ℕ → ℕ → Bool
-bitAt k n = eqb (n / 2 ^ k % 2) 1
 
 -- the flags of a flags word
 unfoldable pub flagsOf : ℕ → Flags

@@ -1,6 +1,6 @@
 // The seven flags as a value, the flags word that they are packed in, the conditions on them, and the policy for an undefined flag.
 ghost use mathlib.Core.Path.{_≡_};
-ghost use Rattle.flags.specs.Word.{Word, AhWord, flagsOf, passes, fromAh, bitAt};
+ghost use Rattle.flags.specs.Word.{Word, AhWord, flagsOf, passes, fromAh};
 ghost use Rattle.flags.specs.Conditions.{meets, even};
 ghost use Rattle.flags.specs.Results.{undefinedFlag, parity, resulting};
 use width::Size;

@@ -2,7 +2,7 @@
 use mathlib.Core.Path.{_≡_}
 use mathlib.Core.Bool.{Bool, cond, _||_}
 use Prim.Native.Nat.{ℕ, _+_, _-_, _*_, _/_, _%_, _^_, _<_}
-use lib.Dec.{ltb, leb}
+use lib.Dec.{ltb, leb, eqb}
 use lib.IntN.{ℤ, pos, negsuc, negℤ, subℕ}
 use lib.Signed.{ltZ, leZ}
 use Rattle.width.specs.declared.Size.{Size}
@@ -16,6 +16,10 @@ bit b = cond b 1 0
 pub record Bit (b : Bool) (r : ℕ) : Type 0 where
   pub is : r ≡ bit b
   pub below : r < 2
+
+-- one bit of a number
+unfoldable pub bitAt : ℕ → ℕ → Bool
+bitAt k n = eqb (n / 2 ^ k % 2) 1
 
 -- an integer's rest modulo m: the one number below m that differs from it by a multiple of m
 unfoldable pub residue : ℕ → ℤ → ℕ

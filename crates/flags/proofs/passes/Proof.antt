@@ -2,7 +2,8 @@
 use borrow.Author.Tests.{eq-eqb, ne-eqb}
 use Rattle.flags.proofs.passes.Statement.{statement}
 use Rattle.flags.proofs.passes.Tie as tie
-use Rattle.flags.specs.Word.{bitAt, passes}
+use Rattle.width.specs.Numbers.{bitAt}
+use Rattle.flags.specs.Word.{passes}
 
 returns : tie.Need-returns
 unfolding bitAt passes

@@ -2,7 +2,8 @@
 use native.Mathlib.Nat.{div-one}
 use Rattle.flags.proofs.unpack.Statement.{statement}
 use Rattle.flags.proofs.unpack.Tie as tie
-use Rattle.flags.specs.Word.{bitAt, flagsOf}
+use Rattle.width.specs.Numbers.{bitAt}
+use Rattle.flags.specs.Word.{flagsOf}
 
 returns : tie.Need-returns
 unfolding bitAt flagsOf

@@ -2,7 +2,8 @@
 use borrow.Author.Needs.{needs}
 use Rattle.flags.proofs.with_ah.Statement.{statement}
 use Rattle.flags.proofs.with_ah.Tie as tie
-use Rattle.flags.specs.Word.{bitAt, flagsOf, fromAh}
+use Rattle.width.specs.Numbers.{bitAt}
+use Rattle.flags.specs.Word.{flagsOf, fromAh}
 
 returns : tie.Need-returns
 unfolding bitAt flagsOf fromAh
