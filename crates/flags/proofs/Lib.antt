@@ -1,0 +1,2 @@
+-- The laws of `flags`. Assumes nothing.
+pub mod RoundTrips
