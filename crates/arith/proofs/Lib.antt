@@ -1,0 +1,4 @@
+-- The laws of `arith`. Assumes nothing.
+pub mod Sums
+pub mod Sentences
+pub mod Cases

@@ -1,0 +1,4 @@
+-- The definitions of `arith`. Assumes nothing.
+pub mod Sums
+pub mod Binary
+pub mod Single
