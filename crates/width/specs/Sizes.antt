@@ -9,6 +9,12 @@ bits Byte = 8
 bits Word = 16
 bits Dword = 32
 
+-- how many bytes
+unfoldable pub bytes : Size → ℕ
+bytes Byte = 1
+bytes Word = 2
+bytes Dword = 4
+
 -- how many numbers the size has
 unfoldable pub modulus : Size → ℕ
 modulus w = 2 ^ bits w

@@ -1,7 +1,7 @@
 // Numbers at an operand size: 8, 16 or 32 bits. Values are `u32`, sums and products on the way `u64`.
 ghost use mathlib.Core.Path.{_≡_};
 ghost use lib.IntN.{pos, subℕ};
-ghost use Rattle.width.specs.Sizes.{bits, modulus, half};
+ghost use Rattle.width.specs.Sizes.{bits, bytes, modulus, half};
 ghost use Rattle.width.specs.Numbers.{
   Is,
   bit,
@@ -31,6 +31,17 @@ pub fn bits(w: Size) -> u32
         Size::Byte => 8,
         Size::Word => 16,
         Size::Dword => 32,
+    }
+}
+
+// How many bytes.
+pub fn bytes(w: Size) -> usize
+    ensures { λ r. ⌜ r ≡ bytes w ⌝ }
+{
+    match w {
+        Size::Byte => 1,
+        Size::Word => 2,
+        Size::Dword => 4,
     }
 }
 

@@ -1,0 +1,4 @@
+-- The definitions of `product`. Assumes nothing.
+pub mod Magnitude
+pub mod Multiply
+pub mod Divide
