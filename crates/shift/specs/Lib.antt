@@ -1,0 +1,4 @@
+-- The definitions of `shift`. Assumes nothing.
+pub mod Values
+pub mod Changes
+pub mod Parts
