@@ -1,0 +1,3 @@
+-- The laws of `machine`. Assumes nothing.
+pub mod Access
+pub mod Parts

@@ -1,0 +1,15 @@
+-- `Machine::with_flags` meets its contract by definition. Assumes nothing.
+use mathlib.Core.Path.{refl}
+use Rattle.machine.specs.Registers.{withFlags}
+use Rattle.machine.proofs.registers.Machine.with_flags.Statement.{statement}
+use Rattle.machine.proofs.registers.Machine.with_flags.Tie as tie
+use Rattle.machine.proofs.registers.Machine.with_flags.Reads as reads
+use Rattle.machine.proofs.registers.Machine.with_flags.Lts as lts
+
+-- src/registers.rt:43:5
+returns : tie.Need-returns
+unfolding withFlags
+returns c = refl
+
+pub with-flags-spec : {M : Type 1} → statement M
+with-flags-spec = tie.close (tie.spec returns)

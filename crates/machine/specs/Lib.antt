@@ -1,0 +1,3 @@
+-- The definitions of `machine`. Assumes nothing.
+pub mod Registers
+pub mod Memory
