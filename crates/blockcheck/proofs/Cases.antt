@@ -1,0 +1,161 @@
+-- Case 14 of document 01: what the block check answers for four small blocks. Assumes nothing.
+use mathlib.Core.Path.{_≡_, refl, ap, sym, _∙_, subst}
+use mathlib.Core.Logic.{inl, ⊎-elim}
+use mathlib.Core.Bool.{false}
+use mathlib.Core.List.{List, [], _∷_, List·Memᴰ, List·Memᴰ·head, List·Memᴰ·cases-cons, List·Memᴰ·eq-of-singleton}
+use Prim.Native.Nat.{ℕ}
+use native.Mathlib.Omega.{arith}
+use lib.ListN.{length, take}
+use Rattle.grammar.specs.Choice.{pick}
+use Rattle.grammar.specs.Opcodes.{ruleOf, entryOf, listed, forms, with66}
+use Rattle.grammar.specs.Grammar.{Instruction, Cut, done, next}
+use Rattle.grammar.specs.Answers.{Answers, littleEndian, displaced}
+use Rattle.grammar.specs.Reading.{run, bytesThen}
+use Rattle.grammar.specs.Decoding.{tree, firstTree, opcodeTree, entryTree, accepts, operandTree, modrmTree, tailTree, found, answer, decodeOf}
+use Rattle.grammar.specs.Relative.{relativeOf}
+use Rattle.grammar.specs.declared.rule.Repeat.{Repeat}
+use Rattle.grammar.specs.declared.decode.Decoded.{Decoded}
+use Rattle.grammar.specs.declared.decode.Found.{Found}
+use Rattle.grammar.specs.declared.relative.Relative.{Relative}
+use Rattle.grammar.proofs.Answered.{decode-answers, found-standing}
+use Rattle.blockcheck.specs.Blocks.{numberOf, valueOf, startsFrom, codeBase, targetOf, Lands, Arrives, arrives, Lawful, Good, Astray, marked, Reached, Judged, cut-at, astray-at, accepted}
+use Rattle.blockcheck.specs.declared.Verdict.{Verdict}
+use Rattle.blockcheck.proofs.Cuts.{same-length}
+use Rattle.blockcheck.proofs.Divisions.{prefix-of}
+use Rattle.blockcheck.proofs.Seeking.{landed}
+
+-- a block, the paper's number and value for it, and the marks left
+pub record Case : Type 0 where
+  pub code : List ℕ
+  pub number : ℕ
+  pub value : ℕ
+  pub after : List ℕ
+
+-- whatever marks of the code's length are lent, the answer is judged so
+pub record Holds (c : Case) (marks : List ℕ) : Type 0 where
+  pub verdict : Verdict
+  pub judged : Judged (c .code) marks verdict (c .after)
+  pub number : numberOf verdict ≡ c .number
+  pub value : valueOf verdict ≡ c .value
+
+-- every case of a list
+unfoldable pub All : List Case → Type 0
+All [] = Unit
+All (c ∷ cases) = ((marks : List ℕ) → length marks ≡ length (c .code) → Holds c marks) × All cases
+
+-- case 14
+unfoldable pub case-14 : List Case
+case-14 =
+    record { code = 0xEB ∷ 0xFE ∷ []; number = 0; value = 1; after = 1 ∷ 0 ∷ [] }
+    ∷ record { code = 0xEB ∷ 0x00 ∷ []; number = 23; value = 0; after = 0 ∷ 0 ∷ [] }
+    ∷ record { code = 0xEB ∷ 0xFF ∷ 0x90 ∷ []; number = 23; value = 0; after = 0 ∷ 0 ∷ 0 ∷ [] }
+    ∷ record { code = 0xEB ∷ 0xFF ∷ 0xC0 ∷ []; number = 21; value = 2; after = 0 ∷ 0 ∷ 0 ∷ [] }
+    ∷ []
+
+-- an instruction of one opcode in numbers: so many bytes, the last of them its immediate where there are two
+plain : ℕ → ℕ → ℕ → Decoded
+plain size opcode n =
+    record { length = size; opcode = opcode; narrow = false; repeat = Repeat.Absent; modrm = 0; sib = 0; displacement = 0; immediate = n }
+
+-- what decode gives at the places of the four blocks, and by how much the jumps lead on
+record Decodings : Type 0 where
+  pub back : decodeOf (0xEB ∷ 0xFE ∷ []) 0 ≡ Found.Instruction (plain 2 0xEB 0xFE)
+  pub on : decodeOf (0xEB ∷ 0x00 ∷ []) 0 ≡ Found.Instruction (plain 2 0xEB 0x00)
+  pub into : decodeOf (0xEB ∷ 0xFF ∷ 0x90 ∷ []) 0 ≡ Found.Instruction (plain 2 0xEB 0xFF)
+  pub nop : decodeOf (0x90 ∷ []) 0 ≡ Found.Instruction (plain 1 0x90 0)
+  pub before-cut : decodeOf (0xEB ∷ 0xFF ∷ 0xC0 ∷ []) 0 ≡ Found.Instruction (plain 2 0xEB 0xFF)
+  pub cut : decodeOf (0xC0 ∷ []) 0 ≡ Found.Cut
+  pub back-by : relativeOf (plain 2 0xEB 0xFE) ≡ Relative.By 0xFFFFFFFE
+  pub on-by : relativeOf (plain 2 0xEB 0x00) ≡ Relative.By 0
+  pub into-by : relativeOf (plain 2 0xEB 0xFF) ≡ Relative.By 0xFFFFFFFF
+
+decodings : Decodings
+unfolding decodeOf found answer run tree pick firstTree opcodeTree entryTree ruleOf entryOf listed forms accepts with66 operandTree modrmTree tailTree bytesThen littleEndian displaced relativeOf plain
+decodings =
+    record {
+      back = refl;
+      on = refl;
+      into = refl;
+      nop = refl;
+      before-cut = refl;
+      cut = refl;
+      back-by = refl;
+      on-by = refl;
+      into-by = refl;
+    }
+
+-- the instruction at the front of some code
+own : (code : List ℕ) (d : Decoded) → decodeOf code 0 ≡ Found.Instruction d → Instruction (take (d .length) code)
+own code d e = found-standing code 0 d e .own
+
+-- it is lawful exactly if its displacement lands on a start
+module _ (starts code : List ℕ) (d : Decoded) (e : decodeOf code 0 ≡ Found.Instruction d) (x : ℕ) (by : relativeOf d ≡ Relative.By x) where
+  lawful-as : Arrives starts 0 (d .length) (Relative.By x) ≡ Lawful starts 0 (take (d .length) code) (own code d e)
+  unfolding Lawful own
+  lawful-as =
+      let s = found-standing code 0 d e in
+      let long = ap (λ (y : Decoded). y .length) (sym (s .numbered)) ∙ same-length (s .own) in
+      let leads = sym by ∙ ap relativeOf (sym (s .numbered)) in
+      ap (λ (n : ℕ). Arrives starts 0 n (Relative.By x)) long ∙ ap (Arrives starts 0 (length (take (d .length) code))) leads
+
+  lands-lawful : Lands starts (targetOf 0 (d .length) x) → Lawful starts 0 (take (d .length) code) (own code d e)
+  lands-lawful l = subst (λ (t : Type 0). t) lawful-as (arrives l)
+
+  lawful-lands : Lawful starts 0 (take (d .length) code) (own code d e) → Lands starts (targetOf 0 (d .length) x)
+  lawful-lands l = landed (subst (λ (t : Type 0). t) (sym lawful-as) l)
+
+-- EB FE leads to itself
+jumps-back : (marks : List ℕ) → length marks ≡ 2 → Judged (0xEB ∷ 0xFE ∷ []) marks (Verdict.Accepted 1) (1 ∷ 0 ∷ [])
+unfolding plain startsFrom marked Good Lands targetOf codeBase
+jumps-back marks h =
+    let first = own (0xEB ∷ 0xFE ∷ []) (plain 2 0xEB 0xFE) (decodings .back) in
+    accepted (record { some = omega arith; most = omega arith }) h (next first done)
+    (lands-lawful (0 ∷ []) (0xEB ∷ 0xFE ∷ []) (plain 2 0xEB 0xFE) (decodings .back) 0xFFFFFFFE (decodings .back-by) (0, List·Memᴰ·head refl, refl), tt)
+
+-- EB 00 leads to the code's end
+jumps-out : (marks : List ℕ) → length marks ≡ 2 → Judged (0xEB ∷ 0x00 ∷ []) marks (Verdict.AstrayAt 0) (0 ∷ 0 ∷ [])
+unfolding plain startsFrom marked Astray Lands targetOf codeBase
+jumps-out marks h =
+    let first = own (0xEB ∷ 0x00 ∷ []) (plain 2 0xEB 0x00) (decodings .on) in
+    let lands = lawful-lands (0 ∷ []) (0xEB ∷ 0x00 ∷ []) (plain 2 0xEB 0x00) (decodings .on) 0 (decodings .on-by) in
+    astray-at (record { some = omega arith; most = omega arith }) h (next first done)
+    (inl (λ l. let (s, m, e) = lands l in omega (arith, List·Memᴰ·eq-of-singleton m), refl))
+
+-- EB FF leads into itself
+jumps-in : (marks : List ℕ) → length marks ≡ 3 → Judged (0xEB ∷ 0xFF ∷ 0x90 ∷ []) marks (Verdict.AstrayAt 0) (0 ∷ 0 ∷ 0 ∷ [])
+unfolding plain startsFrom marked Astray Lands targetOf codeBase
+jumps-in marks h =
+    let first = own (0xEB ∷ 0xFF ∷ 0x90 ∷ []) (plain 2 0xEB 0xFF) (decodings .into) in
+    let second = own (0x90 ∷ []) (plain 1 0x90 0) (decodings .nop) in
+    let lands = lawful-lands (0 ∷ 2 ∷ []) (0xEB ∷ 0xFF ∷ 0x90 ∷ []) (plain 2 0xEB 0xFF) (decodings .into) 0xFFFFFFFF (decodings .into-by) in
+    astray-at (record { some = omega arith; most = omega arith }) h (next first (next second done))
+    (inl (
+      λ l.
+          let (s, m, e) = lands l in
+          ⊎-elim (λ (z : s ≡ 0). omega arith) (λ n. omega (arith, List·Memᴰ·eq-of-singleton n)) (List·Memᴰ·cases-cons m),
+      refl,
+    ))
+
+-- C0 alone is cut
+ends-cut : (marks : List ℕ) → length marks ≡ 3 → Judged (0xEB ∷ 0xFF ∷ 0xC0 ∷ []) marks (Verdict.CutAt 2) (0 ∷ 0 ∷ 0 ∷ [])
+unfolding plain
+ends-cut marks h =
+    let first = own (0xEB ∷ 0xFF ∷ 0xC0 ∷ []) (plain 2 0xEB 0xFF) (decodings .before-cut) in
+    let reached : Reached (0xEB ∷ 0xFF ∷ 0xC0 ∷ []) (0xC0 ∷ []) =
+    record { before = 0xEB ∷ 0xFF ∷ []; pieces = (0xEB ∷ 0xFF ∷ []) ∷ []; cut = next first done; joined = refl } in
+    cut-at (record { some = omega arith; most = omega arith }) h reached (omega arith)
+    (prefix-of (subst (Answers (0xC0 ∷ [])) (decodings .cut) (decode-answers (0xC0 ∷ []) 0)))
+
+-- all of case 14 holds of the written rules
+pub case-14-holds : All case-14
+unfolding All case-14
+case-14-holds = (
+  λ marks h. record { verdict = Verdict.Accepted 1; judged = jumps-back marks h; number = refl; value = refl },
+  (
+    λ marks h. record { verdict = Verdict.AstrayAt 0; judged = jumps-out marks h; number = refl; value = refl },
+    (
+      λ marks h. record { verdict = Verdict.AstrayAt 0; judged = jumps-in marks h; number = refl; value = refl },
+      (λ marks h. record { verdict = Verdict.CutAt 2; judged = ends-cut marks h; number = refl; value = refl }, tt),
+    ),
+  ),
+)

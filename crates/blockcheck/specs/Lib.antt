@@ -1,0 +1,4 @@
+-- The definitions of `blockcheck`. Assumes nothing.
+pub mod Blocks
+pub mod Passes
+pub mod Starts

@@ -1,0 +1,78 @@
+// The pass that looks where the displacements lead.
+use grammar::decode::Decoded;
+use grammar::decode::Found;
+use grammar::decode::decode;
+use grammar::relative::Relative;
+use grammar::relative::relative_of;
+ghost use mathlib.Core.Path.{_≡_};
+ghost use mathlib.Core.List.{List};
+ghost use Prim.Native.Nat.{ℕ, _+_, _<_, _^_};
+ghost use Rattle.grammar.specs.Relative.{relativeOf};
+ghost use Rattle.blockcheck.specs.Blocks.{targetOf, Lands, Arrives};
+ghost use Rattle.blockcheck.specs.Passes.{Tells, Shows, Passes, Whole, Sought};
+
+// The address that a displacement leads to, from an instruction's offset and length.
+fn leads_to(at: usize, size: usize, displacement: u32) -> u32
+    requires { ⌜ at + size < 2 ^ 63 ⌝ }
+    ensures { λ r. ⌜ r ≡ targetOf at size displacement ⌝ }
+{
+    ((0x1_0000 + at as u64 + size as u64 + displacement as u64) % 0x1_0000_0000) as u32
+}
+
+// Whether a marked start lies at this address.
+fn lands(marks: &[u8], address: u32) -> bool
+    ensures { λ r. ⌜ ((starts : List ℕ) → Shows (now (marks .entry)) starts → Tells (Lands starts address) r) ⌝ }
+{
+    if address < 0x1_0000 {
+        return false;
+    }
+    let i = (address - 0x1_0000) as usize;
+    if marks.len() <= i {
+        return false;
+    }
+    let mark = marks[i];
+    mark == 1
+}
+
+// Whether an instruction's displacement, if it has one, leads to a marked start.
+fn arrives(marks: &[u8], at: usize, d: Decoded) -> bool
+    requires { ⌜ at + d .length < 2 ^ 63 ⌝ }
+    ensures { λ r. ⌜ ((starts : List ℕ) → Shows (now (marks .entry)) starts → Tells (Arrives starts at (d .length) (relativeOf d)) r) ⌝ }
+{
+    match relative_of(d) {
+        Relative::Absent => true,
+        Relative::By(displacement) => lands(marks, leads_to(at, d.length, displacement)),
+    }
+}
+
+// The length of the instruction here, or 0 where its displacement leads to no marked start.
+fn pass(code: &[u8], marks: &[u8], at: usize) -> usize
+    ensures { λ r. ⌜ Passes (now (code .entry)) (now (marks .entry)) at r ⌝ }
+{
+    match decode(code, at) {
+        Found::Instruction(d) => {
+            if arrives(marks, at, d) {
+                return d.length;
+            }
+            0
+        }
+        Found::Cut => 0,
+        Found::Unknown => 0,
+    }
+}
+
+// The offset of the first instruction whose displacement leads to no start; the code's length where there is none.
+pub fn first_astray(code: &[u8], marks: &[u8]) -> usize
+    requires { ⌜ Whole (now code) (now marks) ⌝ }
+    ensures { λ r. ⌜ Sought (now (code .entry)) r ⌝ }
+{
+    let mut at = 0;
+    while at < code.len() {
+        let size = pass(code, marks, at);
+        if size == 0 {
+            return at;
+        }
+        at += size;
+    }
+    at
+}

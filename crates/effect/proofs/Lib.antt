@@ -1,0 +1,4 @@
+-- The laws of `effect`. Assumes nothing.
+pub mod Elements
+pub mod Repeats
+pub mod Ways

@@ -1,0 +1,20 @@
+-- `arithmetic::binary` meets its contract. Assumes nothing.
+use borrow.Author.Needs.{needs}
+use Rattle.effect.proofs.arithmetic.binary.Statement.{statement}
+use Rattle.effect.proofs.arithmetic.binary.Tie as tie
+use Rattle.effect.specs.Arithmetic.{binary}
+
+returns : tie.Need-returns
+unfolding binary
+returns c = simp (c .settled .ensures, c .before .with-flags .ensures, c .before .before .onward .ensures, c .before .before .before .binary-value .ensures .is, c .before .before .before .before .binary-flags .ensures)
+
+pub binary-spec : {M : Type 1} → statement M
+binary-spec =
+    tie.close
+    (tie.spec
+    (λ c κs. search needs)
+    (λ c κs. search needs)
+    (λ c κs. search needs)
+    (λ c κs. search needs)
+    (λ c κs. search needs)
+    returns)

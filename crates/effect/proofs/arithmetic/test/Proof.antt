@@ -1,0 +1,14 @@
+-- `arithmetic::test` meets its contract. Assumes nothing.
+use borrow.Author.Needs.{needs}
+use Rattle.effect.proofs.arithmetic.test.Statement.{statement}
+use Rattle.effect.proofs.arithmetic.test.Tie as tie
+use Rattle.effect.specs.Arithmetic.{test}
+
+returns : tie.Need-returns
+unfolding test
+returns c = simp (c .becomes .ensures, c .before .with-flags .ensures, c .before .before .onward .ensures, c .before .before .before .binary-flags .ensures)
+
+pub test-spec : {M : Type 1} → statement M
+test-spec =
+    tie.close
+    (tie.spec (λ c κs. search needs) (λ c κs. search needs) (λ c κs. search needs) (λ c κs. search needs) returns)

@@ -1,0 +1,9 @@
+-- The definitions of `effect`. Assumes nothing.
+pub mod Words
+pub mod Arithmetic
+pub mod Moves
+pub mod Stacks
+pub mod Branches
+pub mod Strings
+pub mod All
+pub mod Ways

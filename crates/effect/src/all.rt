@@ -1,0 +1,47 @@
+// What the operation of a plan reads, and then does.
+use crate::arithmetic::arithmetic_effect;
+use crate::arithmetic::arithmetic_reads;
+use crate::branches::branch_effect;
+use crate::branches::branch_reads;
+use crate::moves::flagging_effect;
+use crate::moves::move_effect;
+use crate::moves::move_reads;
+use crate::outcome::Effect;
+use crate::outcome::Reads;
+use crate::rounds::string_effect;
+use crate::rounds::string_reads;
+use crate::stacks::stack_effect;
+use crate::stacks::stack_reads;
+use machine::registers::Machine;
+use plan::Plan;
+use sense::Operation;
+ghost use mathlib.Core.Path.{_≡_};
+ghost use Rattle.effect.specs.All.{readsBy, effectBy};
+
+// What it reads, in this order.
+pub fn reads_by(operation: Operation, m: Machine, p: Plan) -> Reads
+    ensures { λ r. ⌜ r ≡ readsBy operation m p ⌝ }
+{
+    match operation {
+        Operation::Arithmetic(_) => arithmetic_reads(p),
+        Operation::Move(op) => move_reads(op, p),
+        Operation::Flagging(_) => Reads::Nothing,
+        Operation::Stack(op) => stack_reads(op, m, p),
+        Operation::Branch(op) => branch_reads(op, p),
+        Operation::Strings(op) => string_reads(op, m, p),
+    }
+}
+
+// What it does, where r and s are what was read.
+pub fn effect_by(operation: Operation, m: Machine, p: Plan, r: u32, s: u32) -> Effect
+    ensures { λ e. ⌜ e ≡ effectBy operation m p r s ⌝ }
+{
+    match operation {
+        Operation::Arithmetic(op) => arithmetic_effect(op, m, p, r),
+        Operation::Move(op) => move_effect(op, m, p, r),
+        Operation::Flagging(op) => flagging_effect(op, m, p),
+        Operation::Stack(op) => stack_effect(op, m, p, r),
+        Operation::Branch(op) => branch_effect(op, m, p, r),
+        Operation::Strings(op) => string_effect(op, m, p, r, s),
+    }
+}

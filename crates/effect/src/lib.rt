@@ -1,0 +1,9 @@
+// What each operation reads, and then does: pure, on values.
+pub mod all;
+mod arithmetic;
+mod branches;
+mod moves;
+pub mod outcome;
+mod rounds;
+mod stacks;
+mod words;

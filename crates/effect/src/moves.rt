@@ -1,0 +1,231 @@
+// Operations that move a value or set flags: what each reads and does.
+use crate::outcome::Effect;
+use crate::outcome::Reads;
+use crate::words;
+use flags::Flags;
+use machine::registers::Machine;
+use plan::Plan;
+use sense::Flagging;
+use sense::Move;
+use width::Size;
+ghost use mathlib.Core.Path.{_≡_};
+ghost use Rattle.width.specs.Numbers.{bit, signExtended, signFilled, reversed};
+ghost use Rattle.flags.specs.Conditions.{meets};
+ghost use Rattle.flags.specs.Word.{ahOf, fromAh};
+ghost use Rattle.machine.specs.Registers.{part, withPart, withFlags};
+ghost use Rattle.effect.specs.Words as W;
+ghost use Rattle.effect.specs.Moves as M;
+
+// The source is read, by MOVZX and MOVSX at its own size; of XCHG the destination.
+pub fn move_reads(op: Move, p: Plan) -> Reads
+    ensures { λ r. ⌜ r ≡ M.moveReads op p ⌝ }
+{
+    let w = p.size;
+    let s = p.source;
+    match op {
+        Move::Mov => words::read_of(s, w),
+        Move::MovZero(from) => words::read_of(s, from),
+        Move::MovSign(from) => words::read_of(s, from),
+        Move::Lea => Reads::Nothing,
+        Move::Xchg => {
+            let d = p.destination;
+            words::read_of(d, w)
+        }
+        Move::Convert => Reads::Nothing,
+        Move::Spread => Reads::Nothing,
+        Move::Bswap => Reads::Nothing,
+        Move::Set(_) => Reads::Nothing,
+        Move::Lahf => Reads::Nothing,
+        Move::Sahf => Reads::Nothing,
+    }
+}
+
+// DEST ← v.
+fn placed(m: Machine, p: Plan, v: u32) -> Effect
+    ensures { λ e. ⌜ e ≡ W.assign (p .destination) (W.onward m p) (p .size) v ⌝ }
+{
+    let d = p.destination;
+    let w = p.size;
+    words::assign(d, words::onward(m, p), w, v)
+}
+
+// MOV and MOVZX: DEST ← SRC, a number of the size `from`.
+fn moved(m: Machine, p: Plan, r: u32, from: Size) -> Effect
+    ensures { λ e. ⌜ e ≡ W.assign (p .destination) (W.onward m p) (p .size) (W.value (p .source) m r from) ⌝ }
+{
+    let s = p.source;
+    placed(m, p, words::value(s, m, r, from))
+}
+
+// MOVSX: DEST ← SRC, extended by sign.
+fn extended(m: Machine, p: Plan, r: u32, from: Size) -> Effect
+    ensures { λ e. ⌜
+        e ≡ W.assign (p .destination) (W.onward m p) (p .size)
+        (signExtended from (p .size) (W.value (p .source) m r from))
+        ⌝ }
+{
+    let s = p.source;
+    let w = p.size;
+    placed(
+        m,
+        p,
+        width::sign_extended(from, w, words::value(s, m, r, from)),
+    )
+}
+
+// LEA: DEST ← the address of SRC.
+fn addressed(m: Machine, p: Plan) -> Effect
+    ensures { λ e. ⌜ e ≡ W.assign (p .destination) (W.onward m p) (p .size) (W.addressOf (p .source)) ⌝ }
+{
+    let s = p.source;
+    placed(m, p, words::address_of(s))
+}
+
+// DEST ← b and SRC ← a.
+fn exchanged(m: Machine, p: Plan, a: u32, b: u32) -> Effect
+    ensures { λ e. ⌜ e ≡ M.exchanged m p a b ⌝ }
+{
+    let d = p.destination;
+    let s = p.source;
+    let w = p.size;
+    words::assign(d, words::assigned(s, words::onward(m, p), w, a), w, b)
+}
+
+// XCHG: DEST and SRC change places.
+fn swapped(m: Machine, p: Plan, r: u32) -> Effect
+    ensures { λ e. ⌜ e ≡ M.exchanged m p (W.value (p .destination) m r (p .size)) (W.value (p .source) m r (p .size)) ⌝ }
+{
+    let d = p.destination;
+    let s = p.source;
+    let w = p.size;
+    exchanged(m, p, words::value(d, m, r, w), words::value(s, m, r, w))
+}
+
+// Half a size.
+fn smaller(w: Size) -> Size
+    ensures { λ r. ⌜ r ≡ M.smaller w ⌝ }
+{
+    match w {
+        Size::Byte => Size::Byte,
+        Size::Word => Size::Byte,
+        Size::Dword => Size::Word,
+    }
+}
+
+// CBW and CWDE: AX ← AL, or EAX ← AX, extended by sign.
+fn converted(m: Machine, p: Plan) -> Effect
+    ensures { λ e. ⌜
+        e ≡ W.becomes (withPart (W.onward m p) (p .size) 0
+        (signExtended (M.smaller (p .size)) (p .size) (part m (M.smaller (p .size)) 0)))
+        ⌝ }
+{
+    let w = p.size;
+    let from = smaller(w);
+    let v = width::sign_extended(from, w, m.part(from, 0));
+    words::becomes(words::onward(m, p).with_part(w, 0, v))
+}
+
+// CWD and CDQ: each bit of DX, or EDX, ← the sign of AX, or EAX.
+fn spread(m: Machine, p: Plan) -> Effect
+    ensures { λ e. ⌜ e ≡ W.becomes (withPart (W.onward m p) (p .size) 2 (signFilled (p .size) (part m (p .size) 0))) ⌝ }
+{
+    let w = p.size;
+    let v = width::sign_filled(w, m.part(w, 0));
+    words::becomes(words::onward(m, p).with_part(w, 2, v))
+}
+
+// BSWAP: the register's bytes in the opposite order.
+fn turned(m: Machine, p: Plan, r: u32) -> Effect
+    ensures { λ e. ⌜
+        e ≡ W.assign (p .destination) (W.onward m p) (p .size) (reversed (W.value (p .destination) m r (p .size)))
+        ⌝ }
+{
+    let d = p.destination;
+    let w = p.size;
+    placed(m, p, width::reversed(words::value(d, m, r, w)))
+}
+
+// SETcc: DEST ← 1 if the condition is met, else 0.
+fn tested(m: Machine, p: Plan, n: u32) -> Effect
+    ensures { λ e. ⌜ e ≡ W.assign (p .destination) (W.onward m p) (p .size) (bit (meets n (m .flags))) ⌝ }
+{
+    let f = m.flags;
+    placed(m, p, width::bit(flags::meets(n, f)) as u32)
+}
+
+// LAHF: AH ← the flags.
+fn ah_loaded(m: Machine, p: Plan) -> Effect
+    ensures { λ e. ⌜ e ≡ W.becomes (withPart (W.onward m p) Size.Byte 4 (ahOf (m .flags))) ⌝ }
+{
+    let f = m.flags;
+    let v = flags::ah(f);
+    words::becomes(words::onward(m, p).with_part(Size::Byte, 4, v))
+}
+
+// SAHF: the flags ← AH.
+fn ah_stored(m: Machine, p: Plan) -> Effect
+    ensures { λ e. ⌜ e ≡ W.becomes (withFlags (W.onward m p) (fromAh (part m Size.Byte 4) (m .flags))) ⌝ }
+{
+    let old = m.flags;
+    let f = flags::with_ah(m.part(Size::Byte, 4), old);
+    words::becomes(words::onward(m, p).with_flags(f))
+}
+
+// What the operation does.
+pub fn move_effect(op: Move, m: Machine, p: Plan, r: u32) -> Effect
+    ensures { λ e. ⌜ e ≡ M.moveEffect op m p r ⌝ }
+{
+    match op {
+        Move::Mov => {
+            let w = p.size;
+            moved(m, p, r, w)
+        }
+        Move::MovZero(from) => moved(m, p, r, from),
+        Move::MovSign(from) => extended(m, p, r, from),
+        Move::Lea => addressed(m, p),
+        Move::Xchg => swapped(m, p, r),
+        Move::Convert => converted(m, p),
+        Move::Spread => spread(m, p),
+        Move::Bswap => turned(m, p, r),
+        Move::Set(n) => tested(m, p, n),
+        Move::Lahf => ah_loaded(m, p),
+        Move::Sahf => ah_stored(m, p),
+    }
+}
+
+// The flags with another CF.
+fn with_cf(mut f: Flags, c: bool) -> Flags
+    ensures { λ r. ⌜ r ≡ M.withCf f c ⌝ }
+{
+    f.cf = c;
+    f
+}
+
+// The flags with another DF.
+fn with_df(mut f: Flags, d: bool) -> Flags
+    ensures { λ r. ⌜ r ≡ M.withDf f d ⌝ }
+{
+    f.df = d;
+    f
+}
+
+// CMC, CLC, STC, CLD and STD.
+fn flagged(op: Flagging, f: Flags) -> Flags
+    ensures { λ r. ⌜ r ≡ M.flagged op f ⌝ }
+{
+    match op {
+        Flagging::Cmc => with_cf(f, !f.cf),
+        Flagging::Clc => with_cf(f, false),
+        Flagging::Stc => with_cf(f, true),
+        Flagging::Cld => with_df(f, false),
+        Flagging::Std => with_df(f, true),
+    }
+}
+
+// What the operation does.
+pub fn flagging_effect(op: Flagging, m: Machine, p: Plan) -> Effect
+    ensures { λ r. ⌜ r ≡ M.flaggingEffect op m p ⌝ }
+{
+    let f = m.flags;
+    words::becomes(words::onward(m, p).with_flags(flagged(op, f)))
+}

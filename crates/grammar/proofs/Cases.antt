@@ -1,0 +1,68 @@
+-- Document 01's case 13 holds of the grammar: one test that antt computes over the table of its bytes.
+-- Assumes nothing.
+use mathlib.Core.Path.{_≡_, refl}
+use mathlib.Core.Bool.{Bool, true, false}
+use mathlib.Core.List.{List, [], _∷_}
+use Prim.Native.Nat.{ℕ}
+use lib.Dec.{T, eqb, eqb→eq}
+use lib.ListN.{length}
+use lib.Seq.{take-length}
+use Rattle.grammar.specs.Choice.{both}
+use Rattle.grammar.specs.Opcodes.{ruleOf}
+use Rattle.grammar.specs.Grammar.{Instruction, sibLength, bareLength}
+use Rattle.grammar.specs.Answers.{littleEndian, displaced}
+use Rattle.grammar.specs.Reading.{run, bytesThen}
+use Rattle.grammar.specs.Decoding.{tailTree, addressTree, modrmTree, operandTree, accepts, entryTree, opcodeTree, some, acceptsEntry, escapes, escapeTree, firstTree, sizeTree, repeatTree, tree, answer, found, decodeOf}
+use Rattle.grammar.specs.Cases.{Verdict, cut, unknown, one, Case, Holds, All, case13}
+use Rattle.grammar.specs.declared.decode.Found.{Found}
+use Rattle.grammar.proofs.Below.{both-left, both-right}
+use Rattle.grammar.proofs.Answered.{decode-answers, found-standing}
+
+-- what is found is as the verdict says, of n bytes
+agrees : Verdict → ℕ → Found → Bool
+agrees cut n (Found.Instruction d) = false
+agrees cut n Found.Cut = true
+agrees cut n Found.Unknown = false
+agrees unknown n (Found.Instruction d) = false
+agrees unknown n Found.Cut = false
+agrees unknown n Found.Unknown = true
+agrees one n (Found.Instruction d) = eqb (d .length) n
+agrees one n Found.Cut = false
+agrees one n Found.Unknown = false
+
+-- so the verdict holds of the grammar
+holds : (v : Verdict) (bytes : List ℕ) (r : Found) → decodeOf bytes 0 ≡ r → T (agrees v (length bytes) r) → Holds v bytes
+unfolding agrees Holds
+holds cut bytes Found.Cut e t = rw e at (decode-answers bytes 0)
+holds unknown bytes Found.Unknown e t = rw e at (decode-answers bytes 0)
+holds one bytes (Found.Instruction d) e t =
+    let s = found-standing bytes 0 d e in
+    rw (eqb→eq (d .length) (length bytes) t, take-length bytes) at (s .own)
+holds cut bytes (Found.Instruction d) e t = absurd t
+holds cut bytes Found.Unknown e t = absurd t
+holds unknown bytes (Found.Instruction d) e t = absurd t
+holds unknown bytes Found.Cut e t = absurd t
+holds one bytes Found.Cut e t = absurd t
+holds one bytes Found.Unknown e t = absurd t
+
+-- all of a table agrees
+test : List Case → Bool
+test [] = true
+test (c ∷ cs) = both (agrees (c .verdict) (length (c .bytes)) (decodeOf (c .bytes) 0)) (test cs)
+
+-- so all of it holds
+tested : (cs : List Case) → T (test cs) → All cs
+unfolding test All
+tested [] t = tt
+tested (c ∷ cs) t =
+    let first = agrees (c .verdict) (length (c .bytes)) (decodeOf (c .bytes) 0) in
+    (holds (c .verdict) (c .bytes) (decodeOf (c .bytes) 0) refl (both-left first (test cs) t), tested cs (both-right first (test cs) t))
+
+-- the table of case 13 agrees
+passes : T (test case13)
+unfolding test case13 agrees decodeOf found answer run tree sizeTree repeatTree firstTree escapeTree escapes acceptsEntry some opcodeTree entryTree accepts operandTree modrmTree addressTree tailTree bytesThen sibLength bareLength littleEndian displaced ruleOf
+passes = tt
+
+-- case 13
+pub case13-holds : All case13
+case13-holds = tested case13 passes

@@ -1,0 +1,16 @@
+pub mod Below
+pub mod Counts
+pub mod Endian
+pub mod Entries
+pub mod Escapes
+pub mod Trees
+pub mod Finding
+pub mod Operands
+pub mod Unlisted
+pub mod Exact
+pub mod Endings
+pub mod Answered
+pub mod Cutting
+pub mod Eleven
+pub mod Cases
+pub mod Relatives

@@ -1,0 +1,9 @@
+pub mod Choice
+pub mod Opcodes
+pub mod Table
+pub mod Grammar
+pub mod Answers
+pub mod Relative
+pub mod Reading
+pub mod Decoding
+pub mod Cases

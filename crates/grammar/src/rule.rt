@@ -1,0 +1,63 @@
+// What document 01 says of each opcode, in its words.
+
+// The ModR/M byte: none, or which reg fields and operands it may have.
+pub enum ModRM {
+    Absent,
+    Any,
+    Memory,
+    AllBut6,
+    Only0,
+    AllBut1,
+    Only01,
+    Only01246,
+}
+
+// The bytes after ModR/M, SIB and displacement. ImmV is 4 bytes, or 2 under 66. Imm8For0 and ImmVFor0 stand only with reg field 0.
+pub enum Immediate {
+    Absent,
+    Imm8,
+    Imm16,
+    Imm32,
+    ImmV,
+    Address,
+    Rel8,
+    Rel32,
+    Imm8For0,
+    ImmVFor0,
+}
+
+// Whether 66 is allowed before the opcode; Only01: with reg fields 0 and 1.
+pub enum Prefix66 {
+    Refused,
+    Allowed,
+    Only01,
+}
+
+// Which of F2 and F3 are allowed before the opcode.
+pub enum PrefixRepeat {
+    Refused,
+    F2,
+    F3,
+    Either,
+}
+
+// Which of F2 and F3 stands before an opcode.
+pub enum Repeat {
+    Absent,
+    F2,
+    F3,
+}
+
+// All that document 01 says of an opcode.
+pub struct Rule {
+    pub modrm: ModRM,
+    pub immediate: Immediate,
+    pub size: Prefix66,
+    pub repeats: PrefixRepeat,
+}
+
+// What the table has at an opcode's number.
+pub enum Entry {
+    Unlisted,
+    Listed(Rule),
+}

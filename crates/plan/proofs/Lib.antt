@@ -1,0 +1,3 @@
+-- The laws of `plan`. Assumes nothing.
+pub mod Indexes
+pub mod Cases

@@ -1,0 +1,3 @@
+-- The definitions of `plan`. Assumes nothing.
+pub mod Addresses
+pub mod Plans

@@ -1,0 +1,5 @@
+-- The laws of `run`. Assumes nothing.
+pub mod Commits
+pub mod Places
+pub mod Going
+pub mod Handing

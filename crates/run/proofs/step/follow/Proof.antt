@@ -1,0 +1,12 @@
+-- `step::follow` meets its contract. Assumes nothing.
+use borrow.Author.Needs.{needs}
+use Rattle.run.proofs.step.follow.Statement.{statement}
+use Rattle.run.proofs.step.follow.Tie as tie
+use Rattle.run.specs.Steps.{planned}
+
+returns : tie.Need-returns
+unfolding planned
+returns c = rw (← c .before .before .before .before .reads-by .ensures) (c .before .before .perform .ensures)
+
+pub follow-spec : {M : Type 1} → statement M
+follow-spec = tie.close (tie.spec (λ c κs. search needs) (λ c κs. search needs) (λ c. search needs) returns)

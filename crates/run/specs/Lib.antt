@@ -1,0 +1,3 @@
+-- The definitions of `run`. Assumes nothing.
+pub mod Steps
+pub mod Runs

@@ -1,0 +1,127 @@
+// A run of a block: refusals before any step, then steps until the budget is used up or one stops.
+pub mod step;
+
+use crate::step::step;
+use machine::registers::Machine;
+ghost use mathlib.Core.Path.{_≡_};
+ghost use Rattle.run.specs.Runs.{Ends, Runs, runFrom, refusal, opened, closed, runOf};
+
+// The machine as the caller lends it, and gets it back: with the flags word.
+pub struct Lent {
+    pub regs: [u32; 8],
+    pub eip: u32,
+    pub word: u32,
+}
+
+// What a run gives back.
+pub struct Ran {
+    pub machine: Lent,
+    pub steps: u64,
+    pub number: u32,
+    pub address: u32,
+}
+
+// What a run of steps ends with.
+struct End {
+    machine: Machine,
+    steps: u64,
+    number: u32,
+    address: u32,
+}
+
+// The number that a run is refused with, 0 if it is not.
+fn refusal(code_length: usize, area_length: usize, word: u32, budget: u64) -> u32
+    ensures { λ r. ⌜ r ≡ refusal «code_length» «area_length» word budget ⌝ }
+{
+    if code_length == 0 {
+        return 10;
+    }
+    if 65_536 < code_length {
+        return 10;
+    }
+    if 65_536 < area_length {
+        return 11;
+    }
+    if flags::passes(word) {
+        if 1_000_000 < budget {
+            return 13;
+        }
+        return 0;
+    }
+    12
+}
+
+// So many steps at the most, until one stops.
+fn steps(code: &[u8], m: Machine, area: &mut [u8], budget: u64) -> End
+    ensures { λ r. ⌜ Ends (runFrom (now (code .entry)) budget m (now (area .entry)) 0) r (now (area .exit)) ⌝ }
+{
+    let mut at = m;
+    let mut n = 0;
+    while n < budget {
+        let s = step(code, at, area);
+        if s.stopped {
+            return End {
+                machine: at,
+                steps: n,
+                number: s.number,
+                address: s.address,
+            };
+        }
+        at = s.machine;
+        n += 1;
+    }
+    End {
+        machine: at,
+        steps: n,
+        number: 0,
+        address: at.eip,
+    }
+}
+
+// The lent machine, with its flags taken apart.
+fn open(l: Lent) -> Machine
+    ensures { λ r. ⌜ r ≡ opened l ⌝ }
+{
+    let regs = l.regs;
+    Machine {
+        regs,
+        eip: l.eip,
+        flags: flags::unpack(l.word),
+    }
+}
+
+// A machine as it is handed back.
+fn close(m: Machine) -> Lent
+    ensures { λ r. ⌜ r ≡ closed m ⌝ }
+{
+    let regs = m.regs;
+    let f = m.flags;
+    Lent {
+        regs,
+        eip: m.eip,
+        word: flags::pack(f),
+    }
+}
+
+// A run of a block.
+pub fn run(l: Lent, code: &[u8], area: &mut [u8], budget: u64) -> Ran
+    ensures { λ r. ⌜ Runs (runOf (now (code .entry)) l (now (area .entry)) budget) r (now (area .exit)) ⌝ }
+{
+    let n = refusal(code.len(), area.len(), l.word, budget);
+    if n == 0 {
+        let e = steps(code, open(l), area, budget);
+        let m = e.machine;
+        return Ran {
+            machine: close(m),
+            steps: e.steps,
+            number: e.number,
+            address: e.address,
+        };
+    }
+    Ran {
+        machine: l,
+        steps: 0,
+        number: n,
+        address: 0,
+    }
+}

@@ -1,0 +1,154 @@
+// One step: the tests for 1 to 7 in their order. Only this module sees the lent data: it loads, and then stores at most once, last.
+use effect::all::effect_by;
+use effect::all::reads_by;
+use effect::outcome::Effect;
+use effect::outcome::Outcome;
+use effect::outcome::Reads;
+use grammar::decode::Found;
+use machine::memory::Loaded;
+use machine::memory::Stored;
+use machine::registers::Machine;
+use plan::Plan;
+use width::Size;
+ghost use mathlib.Core.Path.{_≡_};
+ghost use Rattle.machine.specs.Memory.{loadOf};
+ghost use Rattle.grammar.specs.Decoding.{decodeOf};
+ghost use Rattle.run.specs.Steps.{
+  stoppedAt,
+  movedTo,
+  Steps,
+  stepOf,
+  executed,
+  planned,
+  performed,
+  loaded,
+  finished,
+  committed,
+};
+
+// What a step comes to: the next machine, or the same one with a number and an address.
+pub struct Stepped {
+    pub stopped: bool,
+    pub machine: Machine,
+    pub number: u32,
+    pub address: u32,
+}
+
+// The step stops; nothing has changed.
+fn stop(m: Machine, number: u32, address: u32) -> Stepped
+    ensures { λ r. ⌜ r ≡ stoppedAt m number address ⌝ }
+{
+    Stepped {
+        stopped: true,
+        machine: m,
+        number,
+        address,
+    }
+}
+
+// The step is done.
+fn next(m: Machine) -> Stepped
+    ensures { λ r. ⌜ r ≡ movedTo m ⌝ }
+{
+    Stepped {
+        stopped: false,
+        machine: m,
+        number: 0,
+        address: 0,
+    }
+}
+
+// The effect's one write, if it has one, and then the next machine.
+fn commit(e: Effect, m: Machine, area: &mut [u8]) -> Stepped
+    ensures { λ r. ⌜ Steps (committed (e .outcome) e m (now (area .entry))) m (now (area .entry)) r (now (area .exit)) ⌝ }
+{
+    let outcome = e.outcome;
+    let after = e.machine;
+    match outcome {
+        Outcome::Becomes => next(after),
+        Outcome::Writes => {
+            let w = e.size;
+            match machine::memory::store(area, w, e.address, e.value) {
+                Stored::Done => next(after),
+                Stored::Outside(a) => stop(m, 6, a),
+            }
+        }
+        Outcome::Faults => stop(m, 7, m.eip),
+    }
+}
+
+// The effect of a plan with what was read.
+fn finish(p: Plan, m: Machine, area: &mut [u8], r: u32, s: u32) -> Stepped
+    ensures { λ t. ⌜ Steps (finished p m (now (area .entry)) r s) m (now (area .entry)) t (now (area .exit)) ⌝ }
+{
+    let op = p.operation;
+    commit(effect_by(op, m, p, r, s), m, area)
+}
+
+// The second read of two, and then the effect.
+fn second(p: Plan, m: Machine, area: &mut [u8], r: u32, w: Size, a: u32) -> Stepped
+    ensures { λ t. ⌜ Steps (loaded (loadOf (now (area .entry)) w a) (λ s. finished p m (now (area .entry)) r s)) m (now (area .entry)) t (now (area .exit)) ⌝ }
+{
+    match machine::memory::load(area, w, a) {
+        Loaded::Value(s) => finish(p, m, area, r, s),
+        Loaded::Outside(b) => stop(m, 5, b),
+    }
+}
+
+// The reads, in their order, and then the effect.
+fn perform(reads: Reads, p: Plan, m: Machine, area: &mut [u8]) -> Stepped
+    ensures { λ r. ⌜ Steps (performed reads p m (now (area .entry))) m (now (area .entry)) r (now (area .exit)) ⌝ }
+{
+    match reads {
+        Reads::Nothing => finish(p, m, area, 0, 0),
+        Reads::One { size, address } => match machine::memory::load(area, size, address) {
+            Loaded::Value(r) => finish(p, m, area, r, 0),
+            Loaded::Outside(a) => stop(m, 5, a),
+        },
+        Reads::Two {
+            size,
+            first,
+            second: other,
+        } => match machine::memory::load(area, size, first) {
+            Loaded::Value(r) => second(p, m, area, r, size, other),
+            Loaded::Outside(a) => stop(m, 5, a),
+        },
+    }
+}
+
+// The step of a plan.
+fn follow(p: Plan, m: Machine, area: &mut [u8]) -> Stepped
+    ensures { λ r. ⌜ Steps (planned p m (now (area .entry))) m (now (area .entry)) r (now (area .exit)) ⌝ }
+{
+    let op = p.operation;
+    perform(reads_by(op, m, p), p, m, area)
+}
+
+// The step at a place inside the code.
+fn execute(code: &[u8], at: usize, m: Machine, area: &mut [u8]) -> Stepped
+    ensures { λ r. ⌜ Steps (executed (decodeOf (now (code .entry)) at) m (now (area .entry))) m (now (area .entry)) r (now (area .exit)) ⌝ }
+{
+    match grammar::decode::decode(code, at) {
+        Found::Instruction(d) => follow(plan::plan_of(m, d), m, area),
+        Found::Cut => stop(m, 3, m.eip),
+        Found::Unknown => stop(m, 4, m.eip),
+    }
+}
+
+// One step.
+pub fn step(code: &[u8], m: Machine, area: &mut [u8]) -> Stepped
+    ensures { λ r. ⌜ Steps (stepOf (now (code .entry)) m (now (area .entry))) m (now (area .entry)) r (now (area .exit)) ⌝ }
+{
+    let eip = m.eip;
+    if eip == 0xFFFF_0000 {
+        return stop(m, 1, eip);
+    }
+    if eip < 0x0001_0000 {
+        return stop(m, 2, eip);
+    }
+    let at = (eip - 0x0001_0000) as usize;
+    if code.len() <= at {
+        return stop(m, 2, eip);
+    }
+    execute(code, at, m, area)
+}

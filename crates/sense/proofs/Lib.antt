@@ -1,0 +1,2 @@
+-- The laws of `sense`. Assumes nothing.
+pub mod Entries

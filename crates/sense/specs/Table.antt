@@ -1,0 +1,40 @@
+-- An entry of the table in words: two digits for the kind, and a digit for each other property. Assumes nothing.
+use mathlib.Core.List.{List, [], _∷_}
+use Prim.Native.Nat.{ℕ, _/_, _%_}
+use lib.Dec.{eqb}
+use lib.ListN.{getD}
+use Rattle.sense.specs.declared.Kind.{Kind}
+use Rattle.sense.specs.declared.Place.{Place}
+use Rattle.sense.specs.declared.Sense.{Sense}
+
+-- the kinds by their numbers
+abbrev pub kindWords : List Kind
+kindWords =
+    Kind.Alu ∷ Kind.AluGroup ∷ Kind.Test ∷ Kind.Inc ∷ Kind.Dec ∷ Kind.ShiftGroup ∷ Kind.ProductGroup ∷ Kind.IncDecGroup ∷ Kind.LastGroup ∷ Kind.ImulLow ∷ Kind.Mov
+    ∷ Kind.MovZeroByte ∷ Kind.MovZeroWord ∷ Kind.MovSignByte ∷ Kind.MovSignWord ∷ Kind.Lea ∷ Kind.Xchg ∷ Kind.Convert ∷ Kind.Spread ∷ Kind.Bswap ∷ Kind.Set ∷ Kind.Lahf
+    ∷ Kind.Sahf ∷ Kind.Cmc ∷ Kind.Clc ∷ Kind.Stc ∷ Kind.Cld ∷ Kind.Std ∷ Kind.Push ∷ Kind.Pop ∷ Kind.Leave ∷ Kind.Call ∷ Kind.Return
+    ∷ Kind.Jump ∷ Kind.JumpIf ∷ Kind.Loopne ∷ Kind.Loope ∷ Kind.Loop ∷ Kind.Jecxz ∷ Kind.Movs ∷ Kind.Cmps ∷ Kind.Stos ∷ Kind.Lods ∷ []
+
+-- and the last kind from there on
+abbrev pub kindAt : ℕ → Kind
+kindAt number = getD kindWords number Kind.Scas
+
+-- the places by their digits
+abbrev pub placeWords : List Place
+placeWords =
+    Place.Absent ∷ Place.Rm ∷ Place.Reg ∷ Place.Accumulator ∷ Place.OpcodeRegister ∷ Place.Immediate ∷ Place.SignedImmediate ∷ Place.Offset ∷ Place.One ∷ []
+
+-- and the last place from there on
+abbrev pub placeAt : ℕ → Place
+placeAt digit = getD placeWords digit Place.Cl
+
+-- an entry in words: the kind in the highest digits, 1 for bytes, the destination, the source, the third operand
+unfoldable pub senseAt : ℕ → Sense
+senseAt x =
+    record {
+      kind = kindAt (x / 0x10000);
+      byte = eqb (x / 0x1000 % 16) 1;
+      destination = placeAt (x / 0x100 % 16);
+      source = placeAt (x / 16 % 16);
+      other = placeAt (x % 16);
+    }
