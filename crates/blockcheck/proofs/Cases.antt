@@ -2,13 +2,13 @@
 use mathlib.Core.Path.{_≡_, refl, ap, sym, _∙_, subst}
 use mathlib.Core.Logic.{inl, ⊎-elim}
 use mathlib.Core.Bool.{false}
-use mathlib.Core.List.{List, [], _∷_, List·Memᴰ, List·Memᴰ·head, List·Memᴰ·cases-cons, List·Memᴰ·eq-of-singleton}
+use mathlib.Core.List.{List, [], _∷_, List·Memᴰ·head, List·Memᴰ·cases-cons, List·Memᴰ·eq-of-singleton}
 use Prim.Native.Nat.{ℕ}
 use native.Mathlib.Omega.{arith}
 use lib.ListN.{length, take}
 use Rattle.grammar.specs.Choice.{pick}
 use Rattle.grammar.specs.Opcodes.{ruleOf, entryOf, listed, forms, with66}
-use Rattle.grammar.specs.Grammar.{Instruction, Cut, done, next}
+use Rattle.grammar.specs.Grammar.{Instruction, done, next}
 use Rattle.grammar.specs.Answers.{Answers, littleEndian, displaced}
 use Rattle.grammar.specs.Reading.{run, bytesThen}
 use Rattle.grammar.specs.Decoding.{tree, firstTree, opcodeTree, entryTree, accepts, operandTree, modrmTree, tailTree, found, answer, decodeOf}
@@ -43,7 +43,7 @@ unfoldable pub All : List Case → Type 0
 All [] = Unit
 All (c ∷ cases) = ((marks : List ℕ) → length marks ≡ length (c .code) → Holds c marks) × All cases
 
--- case 14
+-- EB FE accepted, 1; EB 00 and EB FF 90: 23 at 0; EB FF C0: 21 at 2
 unfoldable pub case-14 : List Case
 case-14 =
     record { code = 0xEB ∷ 0xFE ∷ []; number = 0; value = 1; after = 1 ∷ 0 ∷ [] }
@@ -69,6 +69,7 @@ record Decodings : Type 0 where
   pub on-by : relativeOf (plain 2 0xEB 0x00) ≡ Relative.By 0
   pub into-by : relativeOf (plain 2 0xEB 0xFF) ≡ Relative.By 0xFFFFFFFF
 
+-- all by computing
 decodings : Decodings
 unfolding decodeOf found answer run tree pick firstTree opcodeTree entryTree ruleOf entryOf listed forms accepts with66 operandTree modrmTree tailTree bytesThen littleEndian displaced relativeOf plain
 decodings =
@@ -88,8 +89,9 @@ decodings =
 own : (code : List ℕ) (d : Decoded) → decodeOf code 0 ≡ Found.Instruction d → Instruction (take (d .length) code)
 own code d e = found-standing code 0 d e .own
 
--- it is lawful exactly if its displacement lands on a start
+-- it is lawful exactly if its displacement x lands on one of the starts
 module _ (starts code : List ℕ) (d : Decoded) (e : decodeOf code 0 ≡ Found.Instruction d) (x : ℕ) (by : relativeOf d ≡ Relative.By x) where
+  -- by what its displacement is
   lawful-as : Arrives starts 0 (d .length) (Relative.By x) ≡ Lawful starts 0 (take (d .length) code) (own code d e)
   unfolding Lawful own
   lawful-as =
@@ -98,9 +100,11 @@ module _ (starts code : List ℕ) (d : Decoded) (e : decodeOf code 0 ≡ Found.I
       let leads = sym by ∙ ap relativeOf (sym (s .numbered)) in
       ap (λ (n : ℕ). Arrives starts 0 n (Relative.By x)) long ∙ ap (Arrives starts 0 (length (take (d .length) code))) leads
 
+  -- if it lands, it is lawful
   lands-lawful : Lands starts (targetOf 0 (d .length) x) → Lawful starts 0 (take (d .length) code) (own code d e)
   lands-lawful l = subst (λ (t : Type 0). t) lawful-as (arrives l)
 
+  -- if it is lawful, it lands
   lawful-lands : Lawful starts 0 (take (d .length) code) (own code d e) → Lands starts (targetOf 0 (d .length) x)
   lawful-lands l = landed (subst (λ (t : Type 0). t) (sym lawful-as) l)
 
@@ -121,7 +125,7 @@ jumps-out marks h =
     astray-at (record { some = omega arith; most = omega arith }) h (next first done)
     (inl (λ l. let (s, m, e) = lands l in omega (arith, List·Memᴰ·eq-of-singleton m), refl))
 
--- EB FF leads into itself
+-- EB FF leads into itself, past its first byte
 jumps-in : (marks : List ℕ) → length marks ≡ 3 → Judged (0xEB ∷ 0xFF ∷ 0x90 ∷ []) marks (Verdict.AstrayAt 0) (0 ∷ 0 ∷ 0 ∷ [])
 unfolding plain startsFrom marked Astray Lands targetOf codeBase
 jumps-in marks h =
@@ -136,7 +140,7 @@ jumps-in marks h =
       refl,
     ))
 
--- C0 alone is cut
+-- after EB FF, C0 is cut
 ends-cut : (marks : List ℕ) → length marks ≡ 3 → Judged (0xEB ∷ 0xFF ∷ 0xC0 ∷ []) marks (Verdict.CutAt 2) (0 ∷ 0 ∷ 0 ∷ [])
 unfolding plain
 ends-cut marks h =

@@ -1,35 +1,24 @@
 -- Cuts of some code: no code has two, and all that is asked of one is asked of the code. Assumes nothing.
 use mathlib.Core.Path.{_≡_, refl, ap, sym, _∙_}
-use mathlib.Core.Logic.{_⊎_, inl, inr}
-use mathlib.Core.List.{List, [], _∷_, _++_, append-assoc, append-nil, append-cancel-left}
+use mathlib.Core.Logic.{inl, inr}
+use mathlib.Core.List.{List, [], _++_, append-assoc}
 use Prim.Native.Nat.{ℕ, _+_, _<_}
 use native.Mathlib.Omega.{arith}
 use lib.ListN.{length, drop, length-append}
-use Rattle.grammar.specs.Grammar.{Instruction, Cut, done, next, bytesOf}
+use Rattle.grammar.specs.Grammar.{Instruction, Cut, done, next}
 use Rattle.grammar.specs.Answers.{numbers, Begins, Answers, instruction}
 use Rattle.grammar.specs.Decoding.{decodeOf}
-use Rattle.grammar.specs.Relative.{relativeOf}
-use Rattle.grammar.specs.declared.decode.Decoded.{Decoded}
 use Rattle.grammar.specs.declared.decode.Found.{Found}
-use Rattle.grammar.proofs.Answered.{answers-unique, answers-decode, prefix-free, instruction-some}
+use Rattle.grammar.proofs.Answered.{answers-unique, prefix-free, same-rest, instruction-some}
 use Rattle.blockcheck.specs.Blocks.{startsFrom, Lawful, Good, Astray}
-
--- an instruction has a byte
-pub piece-some : {bytes : List ℕ} → Instruction bytes → 0 < length bytes
-piece-some i = rw (i .joined) at (instruction-some (i .parts))
 
 -- bytes that an instruction stands before begin with it
 abbrev pub begins-with : {bytes : List ℕ} → Instruction bytes → (rest : List ℕ) → Begins (bytes ++ rest)
-begins-with i rest = record { parts = i .parts; built = i .built; rest = rest; joined = ap (λ (l : List ℕ). l ++ rest) (i .joined) }
+begins-with {bytes} i rest = record { own = bytes; instruction = i; rest = rest; joined = refl }
 
 -- nothing begins with an instruction where no byte is
 pub nothing-begins : Begins [] → ⊥
-nothing-begins b = omega (arith, instruction-some (b .parts), simp length-append at (ap length (b .joined)))
-
--- an instruction at a place of the code is what decode gives there
-pub decodes-as : {bytes : List ℕ} (i : Instruction bytes) (code : List ℕ) (at : ℕ) (rest : List ℕ) → drop at code ≡ bytes ++ rest
-    → decodeOf code at ≡ Found.Instruction (numbers (i .parts))
-decodes-as i code at rest e = answers-decode code at (rw e (instruction (begins-with i rest)))
+nothing-begins b = omega (arith, instruction-some (b .instruction), simp length-append at (ap length (b .joined)))
 
 -- an instruction's length in numbers is that of its bytes
 pub same-length : {bytes : List ℕ} (i : Instruction bytes) → numbers (i .parts) .length ≡ length bytes
@@ -37,7 +26,7 @@ unfolding numbers
 same-length i = ap length (i .joined)
 
 -- the same bytes are the same instruction in numbers
-pub same-numbers : {xs ys : List ℕ} (i : Instruction xs) (j : Instruction ys) → xs ≡ ys → numbers (i .parts) ≡ numbers (j .parts)
+same-numbers : {xs ys : List ℕ} (i : Instruction xs) (j : Instruction ys) → xs ≡ ys → numbers (i .parts) ≡ numbers (j .parts)
 same-numbers {xs} {ys} i j e =
     let f : Answers (xs ++ []) (Found.Instruction (numbers (i .parts))) = instruction (begins-with i []) in
     let g : Answers (ys ++ []) (Found.Instruction (numbers (j .parts))) = instruction (begins-with j []) in
@@ -45,12 +34,10 @@ same-numbers {xs} {ys} i j e =
     cc
 
 -- of joined bytes, the first instruction and what follows it
-pub same-next : {xs ys : List ℕ} → Instruction xs → Instruction ys → (a b : List ℕ) → xs ++ a ≡ ys ++ b → (xs ≡ ys) × (a ≡ b)
-same-next {xs} {ys} i j a b e =
-    let h = prefix-free i j a b e in
-    (h, append-cancel-left ys a b (ap (λ (l : List ℕ). l ++ a) (sym h) ∙ e))
+same-next : {xs ys : List ℕ} → Instruction xs → Instruction ys → (a b : List ℕ) → xs ++ a ≡ ys ++ b → (xs ≡ ys) × (a ≡ b)
+same-next i j a b e = (prefix-free i j a b e, same-rest i j a b e)
 
--- cutting comes equally far, and gives the same pieces, wherever it ends before no instruction
+-- cutting that can go no further has come equally far, by the same pieces
 pub same-reach : {xs ys : List (List ℕ)} {a b : List ℕ} → Cut xs a → Cut ys b → (r s : List ℕ) → a ++ r ≡ b ++ s → (Begins r → ⊥)
     → (Begins s → ⊥) → (xs ≡ ys) × (a ≡ b)
 same-reach done done r s e p q = (refl, refl)
@@ -68,16 +55,17 @@ cut-unique p q = same-reach p q [] [] refl nothing-begins nothing-begins .0
 
 -- where an instruction stands, bytes are
 pub not-empty : {bytes : List ℕ} → Instruction bytes → (code : List ℕ) → bytes ++ code ≡ [] → ⊥
-not-empty i code e = omega (arith, piece-some i, simp length-append at (ap length e))
+not-empty i code e = omega (arith, instruction-some i, simp length-append at (ap length e))
 
 module _ (starts : List ℕ) where
+  -- the same bytes at the same offset are as lawful
   lawful-same : {xs ys : List ℕ} (i : Instruction xs) (j : Instruction ys) {m n : ℕ} → xs ≡ ys → m ≡ n → Lawful starts m xs i
       → Lawful starts n ys j
   unfolding Lawful
   lawful-same i j e h l = rw (← same-numbers i j e, ← e, ← h) l
 
-  -- what is good of one cut of the code is good of any
-  pub good-same : {xs ys : List (List ℕ)} {a b : List ℕ} {m n : ℕ} (p : Cut xs a) (q : Cut ys b) → a ≡ b → m ≡ n → Good starts m p
+  -- equal bytes from the same offset on are as good, however they are cut
+  good-same : {xs ys : List (List ℕ)} {a b : List ℕ} {m n : ℕ} (p : Cut xs a) (q : Cut ys b) → a ≡ b → m ≡ n → Good starts m p
       → Good starts n q
   unfolding Good
   good-same done done e h g = tt
@@ -88,8 +76,8 @@ module _ (starts : List ℕ) where
       let long : length bytes ≡ length bytes' = ap length first in
       (lawful-same i j first h lawful, good-same p q rest (omega arith) later)
 
-  -- what is astray in one cut of the code is astray in any
-  pub astray-same : {xs ys : List (List ℕ)} {a b : List ℕ} {m n : ℕ} (k : ℕ) (p : Cut xs a) (q : Cut ys b) → a ≡ b → m ≡ n → Astray starts m p k
+  -- and go astray at the same offset
+  astray-same : {xs ys : List (List ℕ)} {a b : List ℕ} {m n : ℕ} (k : ℕ) (p : Cut xs a) (q : Cut ys b) → a ≡ b → m ≡ n → Astray starts m p k
       → Astray starts n q k
   unfolding Astray
   astray-same k done q e h s = absurd s

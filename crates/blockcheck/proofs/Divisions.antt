@@ -1,13 +1,12 @@
 -- Cutting the code from its front, and marking each start: what is cut so far. Assumes nothing.
-use mathlib.Core.Path.{_≡_, refl, ap, sym, _∙_}
+use mathlib.Core.Path.{_≡_, refl, ap, _∙_}
 use mathlib.Core.List.{List, [], _∷_, _++_, append-assoc, append-nil}
 use Prim.Native.Nat.{ℕ, _+_, _<_, _≤_}
-use native.Mathlib.Numerals.{add-one}
 use native.Mathlib.Omega.{arith}
 use lib.ListN.{length, take, drop, set, replicate, length-append, length-drop, take-append-drop}
 use lib.Seq.{length-take-le, take-add, take-all}
 use Rattle.grammar.specs.Grammar.{Instruction, Cut, done, next}
-use Rattle.grammar.specs.Answers.{Begins, Prefix, Answers, instruction, cut, unknown}
+use Rattle.grammar.specs.Answers.{Begins, Prefix, Answers, cut, unknown}
 use Rattle.grammar.specs.Decoding.{decodeOf}
 use Rattle.grammar.specs.declared.decode.Decoded.{Decoded}
 use Rattle.grammar.specs.declared.decode.Found.{Found}
@@ -33,8 +32,8 @@ begins code = record { pieces = []; before = done; inside = omega arith; few = o
 
 -- one piece more
 cut-more : {pieces : List (List ℕ)} {before bytes : List ℕ} → Cut pieces before → Instruction bytes → Cut (pieces ++ (bytes ∷ [])) (before ++ bytes)
-cut-more {bytes} done i = rw append-nil at (next i done)
-cut-more {bytes} (next {bytes = first} {code} j later) i = rw append-assoc (next j (cut-more later i))
+cut-more done i = rw append-nil at (next i done)
+cut-more (next j later) i = rw append-assoc (next j (cut-more later i))
 
 -- the instruction found at the place is cut, and its start marked
 pub goes : {code marks : List ℕ} {at count : ℕ} (d : Decoded) → Dividing code marks at count → decodeOf code at ≡ Found.Instruction d
@@ -69,6 +68,7 @@ ends {code} {at} so h =
     let c : Cut (so .pieces) code = rw all at (so .before) in
     rw (← so .counted, so .shown) (whole c)
 
+-- where a cut instruction is found, the bytes are its prefix
 pub prefix-of : {bytes : List ℕ} → Answers bytes Found.Cut → Prefix bytes
 prefix-of (cut p) = p
 
@@ -81,10 +81,11 @@ cuts {code} {marks} {at} so h e =
     let is : Divided code (Division.CutAt (length (take at code))) marks = cut-at (reached so) (as-long so) (simp length-drop (omega arith)) p in
     rw here at is
 
--- no instruction begins at the place
+-- where nothing is found, the bytes neither begin with an instruction nor are a prefix of one
 unknown-of : {bytes : List ℕ} → Answers bytes Found.Unknown → (Begins bytes → ⊥) × (Prefix bytes → ⊥)
 unknown-of (unknown b p) = (b, p)
 
+-- no instruction begins at the place
 pub stops : {code marks : List ℕ} {at count : ℕ} → Dividing code marks at count → decodeOf code at ≡ Found.Unknown
     → Divided code (Division.UnknownAt at) marks
 stops {code} {marks} {at} so e =

@@ -1,17 +1,16 @@
 -- Marks that are 1 at the starts and 0 elsewhere. Assumes nothing.
 use mathlib.Core.Path.{_≡_, refl, ap, sym, _∙_}
-use mathlib.Core.Logic.{_⊎_, inl, inr}
 use mathlib.Core.List.{List, [], _∷_, _++_, List·Memᴰ, List·Memᴰ·head, List·Memᴰ·tail, List·Memᴰ·not-nil}
-use Prim.Native.Nat.{ℕ, _+_, _<_, _≤_}
+use Prim.Native.Nat.{ℕ, zero, suc, _+_, _<_}
 use native.Mathlib.Numerals.{add-one}
 use native.Mathlib.Omega.{arith}
-use native.Mathlib.Decide.{ℕ-discrete, decLt}
-use lib.ListN.{length, getD, set, replicate, length-set, length-replicate, length-append, getD-replicate, replicate-append-replicate, take, List·getD-eq-default}
+use native.Mathlib.Decide.{ℕ-discrete}
+use lib.ListN.{length, getD, set, replicate, length-set, length-replicate, length-append, replicate-append-replicate, take}
 use lib.Seq.{set-comm, getD-set-same, getD-set-other, take-suc-set}
 use Rattle.grammar.specs.Grammar.{Cut, done, next}
+use Rattle.grammar.proofs.Answered.{instruction-some}
 use Rattle.blockcheck.specs.Blocks.{startsFrom, marked}
 use Rattle.blockcheck.specs.Passes.{Shows}
-use Rattle.blockcheck.proofs.Cuts.{piece-some}
 
 -- there are so many marks
 pub marked-length : (n : ℕ) (starts : List ℕ) → length (marked n starts) ≡ n
@@ -43,25 +42,24 @@ starts-append ys i (next {bytes} {code} instruction later) =
     ap (λ (l : List ℕ). i ∷ l) (rw (length-append, ← e) (starts-append ys (i + length bytes) later))
 
 -- every start lies inside the code
-pub starts-inside : {pieces : List (List ℕ)} {code : List ℕ} {s : ℕ} (i : ℕ) → Cut pieces code → List·Memᴰ s (startsFrom i pieces) → s < i + length code
+starts-inside : {pieces : List (List ℕ)} {code : List ℕ} {s : ℕ} (i : ℕ) → Cut pieces code → List·Memᴰ s (startsFrom i pieces) → s < i + length code
 unfolding startsFrom
 starts-inside i done m = absurd (List·Memᴰ·not-nil m)
-starts-inside i (next {bytes} {code} instruction later) (List·Memᴰ·head e) = simp length-append (omega (arith, piece-some instruction))
-starts-inside i (next {bytes} {code} instruction later) (List·Memᴰ·tail m) =
+starts-inside i (next instruction later) (List·Memᴰ·head e) = simp length-append (omega (arith, instruction-some instruction))
+starts-inside i (next {bytes} instruction later) (List·Memᴰ·tail m) =
     let h = starts-inside (i + length bytes) later m in
     simp length-append (omega arith)
+
+-- cleared marks are 0
+cleared : (n i : ℕ) → _≡_ {A = ℕ} (getD (replicate n 0) i 0) 0
+cleared zero i = refl
+cleared (suc n) zero = refl
+cleared (suc n) (suc i) = cleared n i
 
 -- a mark of 1 is at a start
 marked-start : (n : ℕ) (starts : List ℕ) (i : ℕ) → getD (marked n starts) i 0 ≡ 1 → List·Memᴰ i starts
 unfolding marked
-marked-start n [] i e = absurd (none (decLt i n))
-  where
-    none : Dec (i < n) → ⊥
-    none (yes h) = let zeros : _≡_ {A = ℕ} (getD (replicate n 0) i 0) 0 = getD-replicate n i 0 0 h in omega arith
-    none (no h) =
-        let past : length (replicate {A = ℕ} n 0) ≤ i = simp length-replicate (omega arith) in
-        let zeros : _≡_ {A = ℕ} (getD (replicate n 0) i 0) 0 = List·getD-eq-default (replicate n 0) 0 past in
-        omega arith
+marked-start n [] i e = absurd (omega (arith, cleared n i))
 marked-start n (s ∷ starts) i e = go (ℕ-discrete i s) (λ k. marked-start n starts i (sym (getD-set-other (marked n starts) s i 1 0 k) ∙ e))
   where
     go : Dec (i ≡ s) → ((i ≡ s → ⊥) → List·Memᴰ i starts) → List·Memᴰ i (s ∷ starts)

@@ -2,7 +2,7 @@
 use mathlib.Core.Path.{_≡_, refl, ap, sym, _∙_, subst}
 use mathlib.Core.Logic.{_⊎_, inl, inr}
 use mathlib.Core.Bool.{Bool, true, false}
-use mathlib.Core.List.{List, [], _∷_, _++_, List·Memᴰ}
+use mathlib.Core.List.{List, [], _++_}
 use Prim.Native.Nat.{ℕ, _+_, _-_, _<_, _≤_}
 use native.Mathlib.Omega.{arith}
 use lib.Dec.{eqb}
@@ -16,9 +16,10 @@ use Rattle.grammar.specs.Relative.{relativeOf}
 use Rattle.grammar.specs.declared.decode.Decoded.{Decoded}
 use Rattle.grammar.specs.declared.decode.Found.{Found}
 use Rattle.grammar.specs.declared.relative.Relative.{Relative}
-use Rattle.blockcheck.specs.Blocks.{startsFrom, codeBase, targetOf, Lands, Arrives, no-displacement, arrives, Lawful, Good, Astray}
+use Rattle.grammar.proofs.Answered.{instruction-some, instruction-found}
+use Rattle.blockcheck.specs.Blocks.{startsFrom, codeBase, targetOf, Lands, Arrives, arrives, Lawful, Good, Astray}
 use Rattle.blockcheck.specs.Passes.{Tells, holds, fails, Shows, Whole, Passing, onward, astray, Passes, Sought, all-good, astray-at}
-use Rattle.blockcheck.proofs.Cuts.{piece-some, decodes-as, same-length, not-empty}
+use Rattle.blockcheck.proofs.Cuts.{same-length, not-empty}
 
 -- no start lies below the code
 pub below-code : (starts : List ℕ) (address : ℕ) → address < 0x1_0000 → Tells (Lands starts address) false
@@ -35,10 +36,12 @@ module _ {marks starts : List ℕ} (shows : Shows marks starts) (address : ℕ) 
       let out : length marks ≤ s = omega arith in
       omega (arith, shows .one s m, List·getD-eq-default marks 0 out))
 
+  -- a mark of 1 is a start
   on-mark : 0x1_0000 ≤ address → getD marks (address - 0x1_0000) 0 ≡ 1 → Lands starts address
   unfolding Lands codeBase
   on-mark low one = (address - 0x1_0000, shows .start (address - 0x1_0000) one, omega arith)
 
+  -- no other mark is one
   off-mark : 0x1_0000 ≤ address → (getD marks (address - 0x1_0000) 0 ≡ 1 → ⊥) → Lands starts address → ⊥
   unfolding Lands codeBase
   off-mark low none (s, m, e) =
@@ -109,6 +112,14 @@ pub record Seeking (code marks : List ℕ) (at : ℕ) : Type 0 where
   pub good : Good (startsFrom 0 pieces) at later → Good (startsFrom 0 pieces) 0 cut
   pub astray : (k : ℕ) → Astray (startsFrom 0 pieces) at later k → Astray (startsFrom 0 pieces) 0 cut k
 
+-- the starts of the code
+abbrev startsOf : {code marks : List ℕ} {at : ℕ} → Seeking code marks at → List ℕ
+startsOf so = startsFrom 0 (so .pieces)
+
+-- after a look at the next instruction, of so many bytes: it is passed, or it is the first astray
+abbrev pub Looked : List ℕ → List ℕ → ℕ → ℕ → Type 0
+Looked code marks at n = ((0 < n) × Seeking code marks (at + n)) ⊎ ((n ≡ 0) × Sought code at)
+
 -- all of it is still to be looked at
 pub begins : {code marks : List ℕ} → Whole code marks → Seeking code marks 0
 begins {code} w =
@@ -136,7 +147,7 @@ pub ends : {code marks : List ℕ} {at : ℕ} → Seeking code marks at → leng
 ends {code} {at} so h =
     let e : length code ≡ at = omega (arith, so .inside) in
     let none : so .rest ≡ [] = sym (so .here) ∙ drop-of-length-le code h in
-    let all : Sought code (length code) = all-good (so .cut) (so .good (empty-good (startsFrom 0 (so .pieces)) at (so .later) none)) in
+    let all : Sought code (length code) = all-good (so .cut) (so .good (empty-good (startsOf so) at (so .later) none)) in
     rw e at all
 
 -- what a look at an instruction says of its bytes
@@ -150,12 +161,13 @@ passed i starts at (astray a) =
 module _ (n : ℕ) {code marks : List ℕ} {at : ℕ} (so : Seeking code marks at) (h : at < length code) (p : Passes code marks at n) where
   -- the next instruction is lawful and passed, or it is the first astray
   onward-or-astray : {bytes after : List ℕ} {later : List (List ℕ)} (i : Instruction bytes) (rest : Cut later after) → drop at code ≡ bytes ++ after
-      → (Good (startsFrom 0 (so .pieces)) at (next i rest) → Good (startsFrom 0 (so .pieces)) 0 (so .cut)) → ((k : ℕ) → Astray (startsFrom 0 (so .pieces)) at (next i rest) k → Astray (startsFrom 0 (so .pieces)) 0 (so .cut) k)
-      → (Lawful (startsFrom 0 (so .pieces)) at bytes i × (n ≡ length bytes)) ⊎ ((Lawful (startsFrom 0 (so .pieces)) at bytes i → ⊥) × (n ≡ 0))
-      → ((0 < n) × Seeking code marks (at + n)) ⊎ ((n ≡ 0) × Sought code at)
+      → (Good (startsOf so) at (next i rest) → Good (startsOf so) 0 (so .cut))
+      → ((k : ℕ) → Astray (startsOf so) at (next i rest) k → Astray (startsOf so) 0 (so .cut) k)
+      → (Lawful (startsOf so) at bytes i × (n ≡ length bytes)) ⊎ ((Lawful (startsOf so) at bytes i → ⊥) × (n ≡ 0))
+      → Looked code marks at n
   unfolding Good Astray
   onward-or-astray {bytes} {after} {later} i rest e good bad (inl (lawful, long)) =
-      let some = piece-some i in
+      let some = instruction-some i in
       let total : length code - at ≡ length bytes + length after = sym (length-drop at code) ∙ ap length e ∙ length-append bytes after in
       inl (
         omega arith,
@@ -174,14 +186,17 @@ module _ (n : ℕ) {code marks : List ℕ} {at : ℕ} (so : Seeking code marks a
       )
   onward-or-astray i rest e good bad (inr (wrong, none)) = inr (none, astray-at (so .cut) h (bad at (inl (wrong, refl))))
 
-  look : {left : List (List ℕ)} {rest : List ℕ} (later : Cut left rest) → drop at code ≡ rest → (Good (startsFrom 0 (so .pieces)) at later → Good (startsFrom 0 (so .pieces)) 0 (so .cut))
-      → ((k : ℕ) → Astray (startsFrom 0 (so .pieces)) at later k → Astray (startsFrom 0 (so .pieces)) 0 (so .cut) k)
-      → ((0 < n) × Seeking code marks (at + n)) ⊎ ((n ≡ 0) × Sought code at)
+  -- by what is left of the cut
+  look : {left : List (List ℕ)} {rest : List ℕ} (later : Cut left rest) → drop at code ≡ rest
+      → (Good (startsOf so) at later → Good (startsOf so) 0 (so .cut))
+      → ((k : ℕ) → Astray (startsOf so) at later k → Astray (startsOf so) 0 (so .cut) k)
+      → Looked code marks at n
   unfolding Passes
   look done e good bad = absurd (omega (arith, sym (length-drop at code) ∙ ap length e))
   look (next {bytes} {code = after} i later) e good bad =
-      onward-or-astray i later e good bad (passed i (startsFrom 0 (so .pieces)) at (p (numbers (i .parts)) (decodes-as i code at after e) (startsFrom 0 (so .pieces)) (so .shows)))
+      let look = p (numbers (i .parts)) (instruction-found i code at after e) (startsOf so) (so .shows) in
+      onward-or-astray i later e good bad (passed i (startsOf so) at look)
 
   -- the next instruction is looked at: it is passed, or it is the first astray
-  pub looks : ((0 < n) × Seeking code marks (at + n)) ⊎ ((n ≡ 0) × Sought code at)
+  pub looks : Looked code marks at n
   looks = look (so .later) (so .here) (so .good) (so .astray)

@@ -1,10 +1,10 @@
 -- From what the passes give to the answer and the marks left. Assumes nothing.
-use mathlib.Core.Path.{_≡_, refl, ap, sym, _∙_}
+use mathlib.Core.Path.{_≡_, ap, _∙_}
 use mathlib.Core.List.{List}
 use Prim.Native.Nat.{ℕ, _<_, _≤_}
 use native.Mathlib.Omega.{arith}
 use lib.ListN.{length, replicate}
-use Rattle.blockcheck.specs.Blocks.{Sized, startsFrom, Judged, cut-at, unknown-at, astray-at, accepted}
+use Rattle.blockcheck.specs.Blocks.{Sized, startsFrom, cut-at, unknown-at, astray-at, accepted}
 use Rattle.blockcheck.specs.Passes.{Divided, Whole, Sought, Settled}
 use Rattle.blockcheck.specs.Passes as passes
 use Rattle.blockcheck.specs.declared.Verdict.{Verdict}

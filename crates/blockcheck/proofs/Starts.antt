@@ -1,8 +1,8 @@
 -- Accepted code from start to start: each decodes, and what follows it or is jumped to is a start. Assumes nothing.
 use mathlib.Core.Path.{_≡_, refl, ap, sym, _∙_, subst}
 use mathlib.Core.Logic.{_⊎_, inl, inr, ⊎-elim, _↔_}
-use mathlib.Core.List.{List, [], _∷_, _++_, append-assoc, List·Memᴰ, List·Memᴰ·head, List·Memᴰ·tail, List·Memᴰ·not-nil}
-use Prim.Native.Nat.{ℕ, _+_, _<_, _≤_}
+use mathlib.Core.List.{List, [], _++_, append-assoc, List·Memᴰ, List·Memᴰ·head, List·Memᴰ·tail, List·Memᴰ·not-nil}
+use Prim.Native.Nat.{ℕ, _+_, _≤_}
 use native.Mathlib.Omega.{arith}
 use lib.ListN.{length, getD, drop, length-append}
 use lib.Seq.{drop-at}
@@ -13,11 +13,11 @@ use Rattle.grammar.specs.Relative.{relativeOf}
 use Rattle.grammar.specs.declared.decode.Decoded.{Decoded}
 use Rattle.grammar.specs.declared.decode.Found.{Found}
 use Rattle.grammar.specs.declared.relative.Relative.{Relative}
-use Rattle.grammar.proofs.Answered.{found-inside}
+use Rattle.grammar.proofs.Answered.{found-inside, instruction-found}
 use Rattle.blockcheck.specs.Blocks.{startsFrom, codeBase, targetOf, Lands, Arrives, Lawful, Good, Judged, accepted}
 use Rattle.blockcheck.specs.Starts.{Start, Acceptable}
 use Rattle.blockcheck.specs.declared.Verdict.{Verdict}
-use Rattle.blockcheck.proofs.Cuts.{decodes-as, same-length, cut-unique, good-of}
+use Rattle.blockcheck.proofs.Cuts.{same-length, cut-unique, good-of}
 use Rattle.blockcheck.proofs.Marking.{marked-shows}
 use Rattle.blockcheck.proofs.Seeking.{landed}
 
@@ -38,6 +38,7 @@ record Placed (i s : ℕ) {pieces : List (List ℕ)} {code : List ℕ} (cut : Cu
   pub follows : List·Memᴰ (s + length bytes) (startsFrom i pieces) ⊎ (after ≡ [])
   pub lawful : (starts : List ℕ) → Good starts i cut → Lawful starts s bytes own
 
+-- every start of a cut has its instruction
 placed : (i s : ℕ) {pieces : List (List ℕ)} {code : List ℕ} (cut : Cut pieces code) → List·Memᴰ s (startsFrom i pieces) → Placed i s cut
 unfolding startsFrom Good
 placed i s done m = absurd (List·Memᴰ·not-nil m)
@@ -66,12 +67,14 @@ placed i s (next {bytes} {code} own later) (List·Memᴰ·tail m) =
     }
 
 module _ {code : List ℕ} {i : ℕ} (start : Start code i) where
+  -- the instruction at the start
   here : Placed 0 i (start .cut)
   here = placed 0 i (start .cut) (start .among)
 
+  -- it is what decode gives
   stands : decodeOf code i ≡ Found.Instruction (numbers (here .own .parts))
   stands =
-      decodes-as (here .own) code i (here .after)
+      instruction-found (here .own) code i (here .after)
       (ap (drop i) (sym (here .joined)) ∙ drop-at (here .before) (here .bytes ++ here .after) i (omega (arith, here .place)))
 
   -- at each start decode gives an instruction, which ends inside the code
@@ -79,9 +82,11 @@ module _ {code : List ℕ} {i : ℕ} (start : Start code i) where
   start-decodes = (numbers (here .own .parts), stands, found-inside code i (numbers (here .own .parts)) stands)
 
   module _ (d : Decoded) (found : decodeOf code i ≡ Found.Instruction d) where
+    -- it is the one found
     same : numbers (here .own .parts) ≡ d
     same = let e = stands in cc
 
+    -- it has as many bytes as decode says
     long : length (here .bytes) ≡ d .length
     long = sym (same-length (here .own)) ∙ ap (λ (x : Decoded). x .length) same
 

@@ -2,14 +2,13 @@
 use mathlib.Core.Path.{_≡_, refl, ap, sym, _∙_}
 use mathlib.Core.Logic.{_↔_}
 use mathlib.Core.List.{List, [], _∷_, _++_, append-nil, append-cancel-left}
-use Prim.Native.Nat.{ℕ, _+_, _<_}
+use Prim.Native.Nat.{ℕ, _<_}
 use native.Mathlib.Omega.{arith}
 use lib.ListN.{length, replicate, length-append}
 use Rattle.grammar.specs.Grammar.{Cut}
-use Rattle.grammar.specs.Answers.{Begins, Prefix, Answers, instruction, cut}
+use Rattle.grammar.specs.Answers.{Begins, Prefix, instruction, cut}
 use Rattle.grammar.specs.Reading.{run}
 use Rattle.grammar.specs.Decoding.{tree, answer, found, decodeOf}
-use Rattle.grammar.specs.declared.decode.Found.{Found}
 use Rattle.grammar.proofs.Answered.{decode-answers, answers-unique}
 use Rattle.blockcheck.specs.Blocks.{Sized, startsFrom, Good, Astray, marked, Reached, Judged, bad-length, bad-marks, cut-at, unknown-at, astray-at, accepted}
 use Rattle.blockcheck.specs.Starts.{Acceptable}
@@ -35,18 +34,19 @@ unknown-some (b ∷ rest) p = omega arith
 same-before : {code r s : List ℕ} (p : Reached code r) (q : Reached code s) → (Begins r → ⊥) → (Begins s → ⊥) → p .before ≡ q .before
 same-before {r} {s} p q a b = same-reach (p .cut) (q .cut) r s (p .joined ∙ sym (q .joined)) a b .1
 
--- with one rest
+-- and leaves the same bytes
 same-rest : {code r s : List ℕ} (p : Reached code r) (q : Reached code s) → (Begins r → ⊥) → (Begins s → ⊥) → r ≡ s
 same-rest {r} {s} p q a b =
     append-cancel-left (q .before) r s (ap (λ (l : List ℕ). l ++ r) (sym (same-before p q a b)) ∙ p .joined ∙ sym (q .joined))
 
 -- where cutting ends before the code does, the code has no cut
-pub stuck-uncut : {code rest : List ℕ} {pieces : List (List ℕ)} → Reached code rest → 0 < length rest → (Begins rest → ⊥) → Cut pieces code → ⊥
+stuck-uncut : {code rest : List ℕ} {pieces : List (List ℕ)} → Reached code rest → 0 < length rest → (Begins rest → ⊥) → Cut pieces code → ⊥
 stuck-uncut {code} {rest} p some stuck c =
     let e = same-reach c (p .cut) [] rest (append-nil code ∙ sym (p .joined)) nothing-begins stuck .1 in
     omega (arith, ap length e, simp length-append at (ap length (p .joined)))
 
 module _ {code marks : List ℕ} where
+  -- with a length that is not allowed, 10 alone is judged
   by-length : {w : Verdict} {n : List ℕ} → (Sized code → ⊥) → Judged code marks w n → (Verdict.BadLength ≡ w) × (marks ≡ n)
   by-length r (bad-length q) = (refl, refl)
   by-length r (bad-marks s q) = absurd (r s)
@@ -55,6 +55,7 @@ module _ {code marks : List ℕ} where
   by-length r (astray-at s l whole astray) = absurd (r s)
   by-length r (accepted s l whole good) = absurd (r s)
 
+  -- with marks of another length, 14 alone
   by-marks : {w : Verdict} {n : List ℕ} → Sized code → (length marks ≡ length code → ⊥) → Judged code marks w n
       → (Verdict.BadMarks ≡ w) × (marks ≡ n)
   by-marks t r (bad-length q) = absurd (q t)
@@ -65,6 +66,7 @@ module _ {code marks : List ℕ} where
   by-marks t r (accepted s l whole good) = absurd (r l)
 
   module _ (t : Sized code) (h : length marks ≡ length code) where
+    -- where cutting ends at a proper prefix, 21 alone
     by-cut : {rest : List ℕ} {w : Verdict} {n : List ℕ} (p : Reached code rest) → 0 < length rest → Prefix rest → Judged code marks w n
         → (Verdict.CutAt (length (p .before)) ≡ w) × (replicate (length code) 0 ≡ n)
     by-cut p some x (bad-length q) = absurd (q t)
@@ -75,6 +77,7 @@ module _ {code marks : List ℕ} where
     by-cut p some x (astray-at s l whole astray) = absurd (stuck-uncut p some (prefix-stuck x) whole)
     by-cut p some x (accepted s l whole good) = absurd (stuck-uncut p some (prefix-stuck x) whole)
 
+    -- where it ends at no instruction and no prefix of one, 22 alone
     by-unknown : {rest : List ℕ} {w : Verdict} {n : List ℕ} (p : Reached code rest) → (Begins rest → ⊥) → (Prefix rest → ⊥) → Judged code marks w n
         → (Verdict.UnknownAt (length (p .before)) ≡ w) × (replicate (length code) 0 ≡ n)
     by-unknown p b x (bad-length q) = absurd (q t)
@@ -85,6 +88,7 @@ module _ {code marks : List ℕ} where
     by-unknown {rest} p b x (astray-at s l whole astray) = absurd (stuck-uncut p (unknown-some rest x) b whole)
     by-unknown {rest} p b x (accepted s l whole good) = absurd (stuck-uncut p (unknown-some rest x) b whole)
 
+    -- where a displacement goes astray, 23 alone
     by-astray : {pieces : List (List ℕ)} {w : Verdict} {n : List ℕ} (i : ℕ) (c : Cut pieces code) → Astray (startsFrom 0 pieces) 0 c i
         → Judged code marks w n → (Verdict.AstrayAt i ≡ w) × (replicate (length code) 0 ≡ n)
     by-astray i c a (bad-length q) = absurd (q t)
@@ -95,6 +99,7 @@ module _ {code marks : List ℕ} where
         (ap Verdict.AstrayAt (astray-unique (startsFrom 0 pieces) 0 i j c a (astray-of j whole c astray)), refl)
     by-astray {pieces} i c a (accepted s l whole good) = absurd (good-not-astray (startsFrom 0 pieces) 0 i c (good-of whole c good) a)
 
+    -- where all are good, acceptance alone
     by-accepted : {pieces : List (List ℕ)} {w : Verdict} {n : List ℕ} (c : Cut pieces code) → Good (startsFrom 0 pieces) 0 c → Judged code marks w n
         → (Verdict.Accepted (length pieces) ≡ w) × (marked (length code) (startsFrom 0 pieces) ≡ n)
     by-accepted c g (bad-length q) = absurd (q t)
@@ -116,11 +121,11 @@ module _ {code marks : List ℕ} where
   judged-unique (astray-at s l whole {i} astray) k = by-astray s l i whole astray k
   judged-unique (accepted s l whole good) k = by-accepted s l whole good k
 
-  -- 21: the code has no cut
+  -- 21 names an offset that no cut passes: the code has none
   pub cut-at-uncut : {i : ℕ} {m : List ℕ} {pieces : List (List ℕ)} → Judged code marks (Verdict.CutAt i) m → Cut pieces code → ⊥
   cut-at-uncut (cut-at s l reached some prefix) = stuck-uncut reached some (prefix-stuck prefix)
 
-  -- 22: the code has no cut
+  -- so does 22
   pub unknown-at-uncut : {i : ℕ} {m : List ℕ} {pieces : List (List ℕ)} → Judged code marks (Verdict.UnknownAt i) m → Cut pieces code → ⊥
   unknown-at-uncut (unknown-at s l {rest} reached begins prefix) = stuck-uncut reached (unknown-some rest prefix) begins
 
@@ -129,7 +134,8 @@ module _ {code marks : List ℕ} where
       → (pieces : List (List ℕ)) × (c : Cut pieces code) × Astray (startsFrom 0 pieces) 0 c i
   astray-in-cut (astray-at s l {pieces} whole astray) = (pieces, whole, astray)
 
-  accepted-acceptable : {count : ℕ} {m : List ℕ} → Judged code marks (Verdict.Accepted count) m → Acceptable code
+  -- accepted code is acceptable
+  pub accepted-acceptable : {count : ℕ} {m : List ℕ} → Judged code marks (Verdict.Accepted count) m → Acceptable code
   accepted-acceptable (accepted s l {pieces} whole good) = record { sized = s; pieces = pieces; cut = whole; good = good }
 
   -- with marks as long as the code, acceptance is judged exactly if the code is acceptable

@@ -2,8 +2,8 @@
 use mathlib.Core.Path.{_≡_}
 use mathlib.Core.Logic.{_⊎_}
 use mathlib.Core.List.{List, [], _∷_, _++_, List·Memᴰ}
-use Prim.Native.Nat.{ℕ, zero, suc, _+_, _%_, _^_, _<_, _≤_}
-use lib.ListN.{length, getD, take, drop, set, replicate}
+use Prim.Native.Nat.{ℕ, _+_, _%_, _^_, _<_, _≤_}
+use lib.ListN.{length, set, replicate}
 use Rattle.grammar.specs.Grammar.{Instruction, Cut, done, next}
 use Rattle.grammar.specs.Answers.{Begins, Prefix, numbers}
 use Rattle.grammar.specs.Relative.{relativeOf}

@@ -10,7 +10,6 @@ pub mod Unlisted
 pub mod Exact
 pub mod Endings
 pub mod Answered
-pub mod Cutting
 pub mod Eleven
 pub mod Cases
 pub mod Relatives

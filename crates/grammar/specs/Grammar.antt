@@ -216,17 +216,7 @@ pub record Instruction (bytes : List ℕ) : Type 0 where
   pub built : Built parts
   pub joined : bytesOf parts ≡ bytes
 
--- a list of instructions
-pub data Instructions : List (List ℕ) → Type 0 where
-  none : Instructions []
-  more : {bytes : List ℕ} {later : List (List ℕ)} → Instruction bytes → Instructions later → Instructions (bytes ∷ later)
-
--- byte strings joined
-unfoldable pub joined : List (List ℕ) → List ℕ
-joined [] = []
-joined (bytes ∷ later) = bytes ++ joined later
-
--- a cut of some code: instructions that joined give the code
-pub record Cut (pieces : List (List ℕ)) (code : List ℕ) : Type 0 where
-  pub instructions : Instructions pieces
-  pub whole : joined pieces ≡ code
+-- a cut of some code: a list of instructions that joined give the code
+pub data Cut : List (List ℕ) → List ℕ → Type 0 where
+  done : Cut [] []
+  next : {bytes code : List ℕ} {later : List (List ℕ)} → Instruction bytes → Cut later code → Cut (bytes ∷ later) (bytes ++ code)

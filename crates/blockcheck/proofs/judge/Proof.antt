@@ -10,15 +10,19 @@ divide-requires : tie.Need-divide-requires
 divide-requires c κs = c .before .before .before .clear .ensures ∙ ap (λ n. replicate n 0) (c .before .before .before .before .before .before .before .pre .1)
 
 settle-requires : tie.Need-settle-requires
-settle-requires c κs = (c .before .before .before .before .before .before .before .before .before .before .before .before .before .before .pre .0, rw (c .before .before .count .given .1) at (c .before .before .before .before .before .before .divide .ensures))
+settle-requires c κs =
+    let cut = c .before .before .before .before .before .before in
+    (cut .before .before .before .before .before .before .before .before .pre .0, rw (c .before .before .count .given .1) at (cut .divide .ensures))
 
 returns-2 : tie.Need-returns-2
 returns-2 c =
-    settled-cut (c .before .before .before .before .before .before .before .before .before .before .before .before .before .before .before .before .before .pre .0) (rw (c .before .before .before .before .before .i .given .1) at (c .before .before .before .before .before .before .before .before .before .divide .ensures)) (c .before .before .clear2 .ensures)
+    let cut = c .before .before .before .before .before .before .before .before .before in
+    settled-cut (cut .before .before .before .before .before .before .before .before .pre .0) (rw (c .before .before .before .before .before .i .given .1) at (cut .divide .ensures)) (c .before .before .clear2 .ensures)
 
 returns-3 : tie.Need-returns-3
 returns-3 c =
-    settled-unknown (c .before .before .before .before .before .before .before .before .before .before .before .before .before .before .before .before .before .pre .0) (rw (c .before .before .before .before .before .i2 .given .1) at (c .before .before .before .before .before .before .before .before .before .divide .ensures)) (c .before .before .clear3 .ensures)
+    let cut = c .before .before .before .before .before .before .before .before .before in
+    settled-unknown (cut .before .before .before .before .before .before .before .before .pre .0) (rw (c .before .before .before .before .before .i2 .given .1) at (cut .divide .ensures)) (c .before .before .clear3 .ensures)
 
 pub judge-spec : {M : Type 1} → statement M
 judge-spec =

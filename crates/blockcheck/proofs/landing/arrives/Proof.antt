@@ -12,7 +12,8 @@ returns c starts shows = rw (sym (c .before .before .relative-of .ensures) ∙ c
 
 returns-2 : tie.Need-returns-2
 returns-2 c starts shows =
-    rw (sym (c .before .before .before .before .before .relative-of .ensures) ∙ c .before .before .before .displacement .given .1) (arrives-as (rw (c .before .leads-to .ensures) at (c .lands .ensures starts shows)))
+    rw (sym (c .before .before .before .before .before .relative-of .ensures) ∙ c .before .before .before .displacement .given .1)
+    (arrives-as (rw (c .before .leads-to .ensures) at (c .lands .ensures starts shows)))
 
 pub arrives-spec : {M : Type 1} → statement M
 arrives-spec =
