@@ -1,14 +1,12 @@
 -- Document 01's cases 1, 2 and 3, their arithmetic, computed from the definitions. Assumes nothing.
 use mathlib.Core.Path.{_≡_, refl}
-use mathlib.Core.Bool.{Bool, false}
+use mathlib.Core.Bool.{false}
 use mathlib.Core.List.{List, [], _∷_}
 use Prim.Native.Nat.{ℕ}
 use lib.Count.{ones, onesIn}
-use Rattle.width.specs.declared.Size.{Size}
 use Rattle.width.specs.declared.Size.the-variants.{Byte, Dword}
 use Rattle.width.specs.Sizes.{bits, modulus, half}
 use Rattle.width.specs.Numbers.{bit, bitAt, residue, rest, beyond, meaning, signed, outside, negative}
-use Rattle.flags.specs.declared.Flags.{Flags}
 use Rattle.flags.specs.Results.{parity, resulting}
 use Rattle.flags.specs.Word.{wordOf, flagsOf}
 use Rattle.arith.specs.declared.Binary.the-variants.{Add}

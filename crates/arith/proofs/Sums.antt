@@ -1,9 +1,9 @@
 -- Sums and differences over the integers as one difference of naturals, unsigned and signed. Assumes nothing.
-use mathlib.Core.Path.{_≡_, refl, sym, ap, ap₂, _∙_}
+use mathlib.Core.Path.{_≡_, ap, ap₂, _∙_}
 use mathlib.Core.Bool.{Bool}
-use Prim.Native.Nat.{ℕ, _+_, _-_, _%_, _^_, _≤_, _<_}
+use Prim.Native.Nat.{ℕ, _+_, _-_, _%_, _^_, _≤_}
 use native.Mathlib.Omega.{arith}
-use lib.IntN.{ℤ, pos, subℕ, _+ℤ_, _-ℤ_}
+use lib.IntN.{pos, subℕ, _-ℤ_}
 use Rattle.width.specs.declared.Size.{Size}
 use Rattle.width.specs.Sizes.{modulus, half}
 use Rattle.width.specs.Numbers.{bit, rest, beyond, signed, Ranked}

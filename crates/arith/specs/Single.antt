@@ -1,5 +1,5 @@
 -- INC DEC NOT NEG: value and flags. Assumes nothing.
-use mathlib.Core.Bool.{Bool, false}
+use mathlib.Core.Bool.{false}
 use Prim.Native.Nat.{ℕ, _-_}
 use lib.IntN.{pos}
 use Rattle.width.specs.declared.Size.{Size}

@@ -2,12 +2,11 @@
 use mathlib.Core.Path.{_≡_, refl, ap, sym, _∙_}
 use mathlib.Core.Logic.{inl, inr}
 use mathlib.Core.List.{List, [], _++_, append-assoc}
-use Prim.Native.Nat.{ℕ, _+_, _<_}
+use Prim.Native.Nat.{ℕ, _+_}
 use native.Mathlib.Omega.{arith}
-use lib.ListN.{length, drop, length-append}
+use lib.ListN.{length, length-append}
 use Rattle.grammar.specs.Grammar.{Instruction, Cut, done, next}
 use Rattle.grammar.specs.Answers.{numbers, Begins, Answers, instruction}
-use Rattle.grammar.specs.Decoding.{decodeOf}
 use Rattle.grammar.specs.declared.decode.Found.{Found}
 use Rattle.grammar.proofs.Answered.{answers-unique, prefix-free, same-rest, instruction-some}
 use Rattle.blockcheck.specs.Blocks.{startsFrom, Lawful, Good, Astray}

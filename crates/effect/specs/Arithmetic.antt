@@ -2,7 +2,6 @@
 use Prim.Native.Nat.{ℕ}
 use Rattle.width.specs.declared.Size.{Size}
 use Rattle.width.specs.declared.Size.the-variants.{Byte, Word, Dword}
-use Rattle.flags.specs.declared.Flags.{Flags}
 use Rattle.arith.specs.declared.Binary.{Binary}
 use Rattle.arith.specs.declared.Binary.the-variants.{Add, Or, Adc, Sbb, And, Sub, Xor, Cmp}
 use Rattle.arith.specs.declared.Single.{Single}
@@ -11,7 +10,6 @@ use Rattle.arith.specs.Single.{singleValue, singleFlags}
 use Rattle.shift.specs.declared.Shift.{Shift}
 use Rattle.shift.specs.Values.{shiftValue}
 use Rattle.shift.specs.Changes.{shiftFlags}
-use Rattle.product.specs.declared.Product.{Product}
 use Rattle.product.specs.declared.Division.{Division}
 use Rattle.product.specs.declared.Division.the-variants.{Parts, Fault}
 use Rattle.product.specs.Multiply.{halves, unsignedProduct, signedProduct, unsignedSpills, signedSpills, productFlags}

@@ -1,6 +1,6 @@
 -- The sixteen conditions. Assumes nothing.
 use mathlib.Core.Bool.{Bool, Bool·beq, false, cond, not, _||_}
-use mathlib.Core.List.{List, [], _∷_}
+use mathlib.Core.List.{[], _∷_}
 use Prim.Native.Nat.{ℕ, _/_, _%_}
 use lib.Dec.{eqb}
 use lib.ListN.{getD}

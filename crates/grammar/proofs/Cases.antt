@@ -10,7 +10,8 @@ use lib.Seq.{take-length}
 use Rattle.grammar.specs.Choice.{both}
 use Rattle.grammar.specs.Opcodes.{ruleOf}
 use Rattle.grammar.specs.Grammar.{Instruction, sibLength, bareLength}
-use Rattle.grammar.specs.Answers.{littleEndian, displaced}
+use Rattle.width.specs.LittleEndian.{littleEndian}
+use Rattle.grammar.specs.Answers.{displaced}
 use Rattle.grammar.specs.Reading.{run, bytesThen}
 use Rattle.grammar.specs.Decoding.{tailTree, addressTree, modrmTree, operandTree, accepts, entryTree, opcodeTree, some, acceptsEntry, escapes, escapeTree, firstTree, sizeTree, repeatTree, tree, answer, found, decodeOf}
 use Rattle.grammar.specs.Cases.{Verdict, cut, unknown, one, Case, Holds, All, case13}

@@ -216,12 +216,12 @@ unfolding right
 table-rule k h = ap entryAt (eqb→eq (getD table k 0) (number (ruleOf k)) (below right 512 all-right k h)) ∙ entry-read (ruleOf k)
 
 -- each line ends below n
-ends : {A : Type 0} → List (Line A) → ℕ → Bool
+unfoldable pub ends : {A : Type 0} → List (Line A) → ℕ → Bool
 ends [] n = true
 ends (l ∷ ls) n = both (ltb (l .last) n) (ends ls n)
 
 -- past their ends the lines list nothing
-listed-past : {A : Type 0} (ls : List (Line A)) (other : A) (n k : ℕ) → T (ends ls n) → n ≤ k → listed ls other k ≡ other
+pub listed-past : {A : Type 0} (ls : List (Line A)) (other : A) (n k : ℕ) → T (ends ls n) → n ≤ k → listed ls other k ≡ other
 unfolding listed ends pick
 listed-past [] other n k t h = refl
 listed-past (l ∷ ls) other n k t h =

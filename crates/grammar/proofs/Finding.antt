@@ -13,7 +13,8 @@ use borrow.Author.Tests.{leb-true, leb-false}
 use Rattle.grammar.specs.Choice.{pick}
 use Rattle.grammar.specs.Opcodes.{ruleOf}
 use Rattle.grammar.specs.Grammar.{Bytes, end, and, hasSib, sibLength, displacementLength, immediateLength, regOf}
-use Rattle.grammar.specs.Answers.{littleEndian, displaced}
+use Rattle.width.specs.LittleEndian.{littleEndian}
+use Rattle.grammar.specs.Answers.{displaced}
 use Rattle.grammar.specs.Reading.{Tree, none, byte, run, bytesThen}
 use Rattle.grammar.specs.Decoding.{answer, found, tailTree, closed, addressTree, withSib, accepts, opened, operandTree, entryTree, opcodeTree}
 use Rattle.grammar.specs.declared.rule.Immediate.{Immediate}

@@ -9,7 +9,8 @@ use native.Mathlib.Omega.{arith}
 use lib.ListN.{length, getD, length-append}
 use Rattle.grammar.specs.Choice.{pick, both}
 use Rattle.grammar.specs.Grammar.{Bytes, end, and, Prefixes, prefixBytes, narrowOf, repeatIn, Opcode, opcodeBytes, numberOf, Operand, absent, addressed, operandBytes, fieldOf, OperandFits, without, with, hasSib, sibLength, displacementLength, immediateLength, regOf, allows, allows66, bytesOf}
-use Rattle.grammar.specs.Answers.{littleEndian, displaced, numbers, modrmOf, sibOf, displacementOf}
+use Rattle.width.specs.LittleEndian.{littleEndian}
+use Rattle.grammar.specs.Answers.{displaced, numbers, modrmOf, sibOf, displacementOf}
 use Rattle.grammar.specs.Reading.{done, none, bytesThen}
 use Rattle.grammar.specs.Decoding.{opened, withModrm, withSib, closed, ended, tailTree, addressTree, modrmTree, hasModrm, operandTree}
 use Rattle.grammar.specs.declared.rule.ModRM.{ModRM}

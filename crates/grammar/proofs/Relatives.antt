@@ -5,7 +5,8 @@ use mathlib.Core.List.{List, [], _∷_}
 use Prim.Native.Nat.{ℕ, _+_, _*_, _%_}
 use native.Mathlib.Omega.{arith}
 use Rattle.grammar.specs.Grammar.{Bytes, end, and, Parts, Built}
-use Rattle.grammar.specs.Answers.{littleEndian, displaced, numbers}
+use Rattle.width.specs.LittleEndian.{littleEndian}
+use Rattle.grammar.specs.Answers.{displaced, numbers}
 use Rattle.grammar.specs.Relative.{relativeBy, relativeIn, relativeOf}
 use Rattle.grammar.specs.declared.rule.Immediate.{Immediate}
 use Rattle.grammar.specs.declared.relative.Relative.{Relative}

@@ -2,18 +2,14 @@
 -- Assumes nothing.
 use mathlib.Core.Path.{_≡_}
 use mathlib.Core.List.{List, [], _∷_, _++_}
-use Prim.Native.Nat.{ℕ, _+_, _*_}
+use Prim.Native.Nat.{ℕ, _+_}
 use lib.Dec.{ltb}
 use lib.ListN.{length, getD}
+use Rattle.width.specs.LittleEndian.{littleEndian}
 use Rattle.grammar.specs.Choice.{pick}
 use Rattle.grammar.specs.Grammar.{Operand, absent, addressed, Parts, Instruction, bytesOf, numberOf, narrowOf, repeatIn}
 use Rattle.grammar.specs.declared.decode.Decoded.{Decoded}
 use Rattle.grammar.specs.declared.decode.Found.{Found}
-
--- the number that bytes stand for, the low byte first
-unfoldable pub littleEndian : List ℕ → ℕ
-littleEndian [] = 0
-littleEndian (b ∷ bs) = b + 256 * littleEndian bs
 
 -- a displacement as a 32-bit number: one byte is extended by sign
 unfoldable pub displaced : List ℕ → ℕ

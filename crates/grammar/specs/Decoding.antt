@@ -9,7 +9,8 @@ use lib.ListN.{length, getD, take, drop}
 use Rattle.grammar.specs.Choice.{pick, both, either}
 use Rattle.grammar.specs.Opcodes.{ruleOf}
 use Rattle.grammar.specs.Grammar.{regOf, sibLength, displacementLength, immediateLength, allows, allows66, allowsRepeat}
-use Rattle.grammar.specs.Answers.{littleEndian, displaced, Answers}
+use Rattle.width.specs.LittleEndian.{littleEndian}
+use Rattle.grammar.specs.Answers.{displaced, Answers}
 use Rattle.grammar.specs.Reading.{Tree, done, none, byte, Outcome, whole, short, wrong, run, bytesThen}
 use Rattle.grammar.specs.declared.rule.ModRM.{ModRM}
 use Rattle.grammar.specs.declared.rule.Immediate.{Immediate}

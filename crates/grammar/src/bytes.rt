@@ -3,7 +3,8 @@ ghost use mathlib.Core.Path.{_≡_};
 ghost use Prim.Native.Nat.{_+_, _*_, _≤_, _<_};
 ghost use mathlib.Core.List.{[], _∷_};
 ghost use lib.ListN.{length, take, drop};
-ghost use Rattle.grammar.specs.Answers.{littleEndian, displaced};
+ghost use Rattle.width.specs.LittleEndian.{littleEndian};
+ghost use Rattle.grammar.specs.Answers.{displaced};
 ghost use Rattle.grammar.specs.Decoding.{Count};
 
 // A byte as a 32-bit number.

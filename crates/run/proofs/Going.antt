@@ -7,10 +7,9 @@ use native.Mathlib.Numerals.{add-one}
 use native.Mathlib.Omega.{arith}
 use lib.ListN.{length}
 use Rattle.machine.specs.declared.registers.Machine.{Machine}
-use Rattle.run.specs.declared.End.{End}
 use Rattle.run.specs.declared.step.Stepped.{Stepped}
 use Rattle.run.specs.Steps.{Moved, next, stop, stepOf, movedTo, stoppedAt, steppedOf, dataAfter, Steps}
-use Rattle.run.specs.Runs.{Ended, Ends, onMoved, runFrom}
+use Rattle.run.specs.Runs.{Ends, onMoved, runFrom}
 
 -- a step that did not stop moved to the machine and the data that it hands back
 pub stepped : (moved : Moved) {m : Machine} {d after : List ℕ} {r : Stepped} → Steps moved m d r after → r .stopped ≡ false → moved ≡ next (r .machine) after

@@ -3,3 +3,5 @@ pub mod Commits
 pub mod Places
 pub mod Going
 pub mod Handing
+pub mod Kept
+pub mod Law

@@ -1,16 +1,12 @@
 -- The table's rule: each entry, in words, is what the lists say of its opcode, and they say nothing past the table. Assumes nothing.
 use mathlib.Core.Path.{_≡_, refl, ap, sym, _∙_}
-use mathlib.Core.Bool.{Bool, true, false}
 use mathlib.Core.List.{List, [], _∷_, map}
 use Prim.Native.Nat.{ℕ, zero, suc, _+_, _<_, _≤_}
 use native.Mathlib.Nat.{add-zero, zero-add, add-suc, suc-add, le-of-suc-le-suc, not-suc-le-zero}
-use native.Mathlib.Omega.{arith}
-use lib.Dec.{T, leb, ltb, ltb→lt}
 use lib.ListN.{getD, List·getD-map}
-use borrow.Author.Tests.{lt-leb}
-use Rattle.grammar.specs.Choice.{pick, both}
-use Rattle.grammar.specs.Opcodes.{Line, listed}
-use Rattle.grammar.proofs.Below.{both-left, both-right, both-right-fails}
+use Rattle.grammar.specs.Choice.{pick}
+use Rattle.grammar.specs.Opcodes.{listed}
+use Rattle.grammar.proofs.Entries.{ends, listed-past}
 use Rattle.sense.specs.Senses.{senses, senseOf}
 use Rattle.sense.specs.Table.{senseAt}
 use Rattle.sense.specs.declared.Sense.{Sense}
@@ -74,20 +70,6 @@ table-rule k h =
     sym (List·getD-map senseAt table k 0) ∙ ap (λ (l : List Sense). getD l k (senseAt 0)) all-right
     ∙ values-at senseOf 0 512 k (senseAt 0) h
     ∙ ap senseOf (zero-add k)
-
--- each line ends below n
-ends : {A : Type 0} → List (Line A) → ℕ → Bool
-ends [] n = true
-ends (l ∷ ls) n = both (ltb (l .last) n) (ends ls n)
-
--- past the end of every line stands the default
-listed-past : {A : Type 0} (ls : List (Line A)) (other : A) (n k : ℕ) → T (ends ls n) → n ≤ k → listed ls other k ≡ other
-unfolding listed ends pick
-listed-past [] other n k t h = refl
-listed-past (l ∷ ls) other n k t h =
-    let below-n = ltb→lt (l .last) n (both-left (ltb (l .last) n) (ends ls n) t) in
-    let outside : leb k (l .last) ≡ false = lt-leb k (l .last) (omega arith) in
-    rw (both-right-fails (leb (l .first) k) outside) (listed-past ls other n k (both-right (ltb (l .last) n) (ends ls n) t) h)
 
 -- no line passes the table
 pub past-table : (k : ℕ) → 512 ≤ k → senseOf k ≡ senseAt 0x0A0000

@@ -1,6 +1,6 @@
 -- What each opcode means, in the order of document 01's lists; 003's opcode maps (appendix A) have the same.
 -- An opcode is a number: 00 to FF alone, 100 to 1FF after 0F. Assumes nothing.
-use mathlib.Core.Bool.{Bool, true, false}
+use mathlib.Core.Bool.{true, false}
 use mathlib.Core.List.{List, [], _∷_, _++_}
 use Prim.Native.Nat.{ℕ, _+_, _*_}
 use Rattle.grammar.specs.Opcodes.{Line, from, at, listed}

@@ -1,7 +1,7 @@
 -- Parts of a list of bytes, byte by byte, and the numbers that they stand for. Assumes nothing.
-use mathlib.Core.Path.{_≡_, refl}
+use mathlib.Core.Path.{_≡_}
 use mathlib.Core.List.{List, [], _∷_}
-use Prim.Native.Nat.{ℕ, zero, suc, _+_, _*_, _≤_, _<_}
+use Prim.Native.Nat.{ℕ, suc, _+_, _*_, _≤_, _<_}
 use native.Mathlib.Numerals.{add-one, add-two, add-three}
 use native.Mathlib.Omega.{arith}
 use lib.ListN.{length, getD, take, drop}
@@ -13,7 +13,7 @@ pub part-cons : (l : List ℕ) (i n : ℕ) → i < length l → take (suc n) (dr
 part-cons l i n h = rw (drop-cons l i 0 h)
 
 module _ (l : List ℕ) (i : ℕ) where
-  one : i + 1 ≤ length l → take 1 (drop i l) ≡ getD l i 0 ∷ []
+  pub one : i + 1 ≤ length l → take 1 (drop i l) ≡ getD l i 0 ∷ []
   one h = part-cons l i 0 (omega arith)
 
   two : i + 2 ≤ length l → take 2 (drop i l) ≡ getD l i 0 ∷ getD l (i + 1) 0 ∷ []

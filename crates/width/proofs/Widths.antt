@@ -1,12 +1,12 @@
 -- What the three sizes have in common, and the laws of rest and signed meaning at a size. Assumes nothing.
-use mathlib.Core.Path.{_≡_, refl, sym, ap, _∙_}
+use mathlib.Core.Path.{_≡_, refl, sym, ap}
 use mathlib.Core.Bool.{false, cond, or-false}
-use Prim.Native.Nat.{ℕ, suc, _+_, _-_, _*_, _/_, _%_, _^_, _<_, _≤_}
+use Prim.Native.Nat.{ℕ, suc, _+_, _-_, _*_, _/_, _^_, _<_, _≤_}
 use native.Mathlib.Omega.{arith}
 use lib.Dec.{ltb, leb, leb·suc-suc}
 use lib.IntN.{ℤ, pos, negsuc, negℤ, subℕ}
 use lib.Signed.{ltZ}
-use borrow.Author.Tests.{lt-ltb, le-ltb, le-leb, lt-leb}
+use borrow.Author.Tests.{lt-ltb, le-ltb}
 use Rattle.width.specs.declared.Size.{Size}
 use Rattle.width.specs.declared.Size.the-variants.{Byte, Word, Dword}
 use Rattle.width.specs.Sizes.{bits, modulus, half}

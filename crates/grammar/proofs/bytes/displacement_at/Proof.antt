@@ -2,7 +2,8 @@
 -- Assumes nothing.
 use mathlib.Core.Path.{sym, _∙_}
 use borrow.Author.Needs.{needs}
-use Rattle.grammar.proofs.Endian.{one, displaced-number}
+use Rattle.width.proofs.LittleEndian.{one}
+use Rattle.grammar.proofs.Endian.{displaced-number}
 use Rattle.grammar.proofs.bytes.displacement_at.Statement.{statement}
 use Rattle.grammar.proofs.bytes.displacement_at.Tie as tie
 

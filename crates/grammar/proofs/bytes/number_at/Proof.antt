@@ -5,8 +5,8 @@ use Prim.Native.Nat.{_+_, _≤_}
 use native.Mathlib.Omega.{arith}
 use lib.ListN.{length}
 use borrow.Author.Needs.{needs}
-use Rattle.grammar.specs.Answers.{littleEndian}
-use Rattle.grammar.proofs.Endian.{number-one, number-two, number-four}
+use Rattle.width.specs.LittleEndian.{littleEndian}
+use Rattle.width.proofs.LittleEndian.{number-one, number-two, number-four}
 use Rattle.grammar.proofs.bytes.number_at.Statement.{statement}
 use Rattle.grammar.proofs.bytes.number_at.Tie as tie
 

@@ -3,7 +3,7 @@ use mathlib.Core.Path.{_≡_}
 use Prim.Native.Nat.{_/_, _%_}
 use native.Mathlib.Omega.{arith}
 use Rattle.width.specs.Sizes.{bits, modulus}
-use Rattle.machine.specs.Registers.{holder, lowest, bitsFrom, part, replaced, withPart, withRegister}
+use Rattle.machine.specs.Registers.{holder, lowest, bitsFrom, part}
 use borrow.Author.Needs.{needs}
 use Rattle.machine.proofs.registers.Machine.byte.Statement.{statement}
 use Rattle.machine.proofs.registers.Machine.byte.Tie as tie

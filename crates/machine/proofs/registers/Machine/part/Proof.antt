@@ -1,8 +1,7 @@
 -- `Machine::part` meets its contract: a size an arm. Assumes nothing.
-use mathlib.Core.Path.{refl, ap}
 use native.Mathlib.Omega.{arith}
 use Rattle.width.specs.Sizes.{bits, modulus}
-use Rattle.machine.specs.Registers.{holder, lowest, bitsFrom, part, replaced, withPart, withRegister}
+use Rattle.machine.specs.Registers.{holder, lowest, bitsFrom, part}
 use borrow.Author.Needs.{needs}
 use Rattle.machine.proofs.registers.Machine.part.Statement.{statement}
 use Rattle.machine.proofs.registers.Machine.part.Tie as tie

@@ -3,8 +3,8 @@ use mathlib.Core.Path.{_≡_, ap}
 use Prim.Native.Nat.{_/_, _%_}
 use Rattle.machine.proofs.Parts.{low-byte, high-byte}
 use native.Mathlib.Omega.{arith}
-use Rattle.width.specs.Sizes.{bits, modulus}
-use Rattle.machine.specs.Registers.{holder, lowest, bitsFrom, part, replaced, withPart, withRegister}
+use Rattle.width.specs.Sizes.{bits}
+use Rattle.machine.specs.Registers.{holder, lowest, withPart, withRegister}
 use borrow.Author.Needs.{needs}
 use Rattle.machine.proofs.registers.Machine.with_byte.Statement.{statement}
 use Rattle.machine.proofs.registers.Machine.with_byte.Tie as tie

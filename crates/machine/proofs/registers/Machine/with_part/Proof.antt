@@ -1,9 +1,8 @@
 -- `Machine::with_part` meets its contract. Assumes nothing.
 use mathlib.Core.Path.{ap}
 use Rattle.machine.proofs.Parts.{low-word, whole}
-use native.Mathlib.Omega.{arith}
-use Rattle.width.specs.Sizes.{bits, modulus}
-use Rattle.machine.specs.Registers.{holder, lowest, bitsFrom, part, replaced, withPart, withRegister}
+use Rattle.width.specs.Sizes.{bits}
+use Rattle.machine.specs.Registers.{holder, lowest, withPart, withRegister}
 use borrow.Author.Needs.{needs}
 use Rattle.machine.proofs.registers.Machine.with_part.Statement.{statement}
 use Rattle.machine.proofs.registers.Machine.with_part.Tie as tie

@@ -1,0 +1,4 @@
+// The listing program on empty input.
+fn main() {
+    listing_text::list_input();
+}

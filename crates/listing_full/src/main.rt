@@ -1,0 +1,4 @@
+// The listing program on 65,536 instructions of one byte.
+fn main() {
+    listing_text::list_input();
+}

@@ -1,0 +1,13 @@
+-- `listing_text::lines::put_field` meets its contract: the digits, and the byte after them. Assumes nothing.
+use borrow.Author.Needs.{needs}
+use Rattle.listing_text.proofs.lines.put_field.Statement.{statement}
+use Rattle.listing_text.proofs.lines.put_field.Tie as tie
+use Rattle.listing_text.specs.Listing.{field}
+use Rattle.text.proofs.Writing.{wrote-both}
+
+returns : tie.Need-returns
+unfolding field
+returns c = wrote-both (c .before .before .before .before .before .before .put-decimal .ensures) (c .before .before .put-byte .ensures)
+
+pub put-field-spec : {M : Type 1} → statement M
+put-field-spec = tie.close (tie.spec (λ c κs. search needs) (λ c κs. search needs) (λ c. search needs) returns)

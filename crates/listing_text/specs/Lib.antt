@@ -1,0 +1,2 @@
+-- The definitions of `listing_text`. Assumes nothing.
+pub mod Listing

@@ -1,0 +1,84 @@
+-- The listing of a block: its text, from what the block check answers. Assumes nothing.
+use mathlib.Core.List.{List, [], _∷_, _++_}
+use Prim.Native.Nat.{ℕ, zero, suc, _+_, _%_}
+use lib.Dec.{ltb}
+use Rattle.grammar.specs.Choice.{pick}
+use Rattle.grammar.specs.Decoding.{decodeOf}
+use Rattle.grammar.specs.declared.decode.Decoded.{Decoded}
+use Rattle.grammar.specs.declared.decode.Found.{Found}
+use Rattle.blockcheck.specs.Blocks.{numberOf, valueOf, Judged}
+use Rattle.blockcheck.specs.declared.Verdict.{Verdict}
+use Rattle.blockcheck.specs.declared.Verdict.the-variants.{Accepted, BadLength, BadMarks, CutAt, UnknownAt, AstrayAt}
+use Rattle.text.specs.Ascii.{ascii}
+use Rattle.text.specs.Written.{Wrote}
+use Rattle.text.specs.Digits.{decimal, hexadecimal}
+
+-- what parts the fields of a line
+abbrev pub tab : ℕ
+tab = 9
+
+-- what ends a line
+abbrev pub newline : ℕ
+newline = 10
+
+-- the fixed header
+unfoldable pub header : List ℕ
+header = ascii "offset\tlength\topcode\n"
+
+-- how the last line begins
+unfoldable pub acceptedWord : List ℕ
+acceptedWord = ascii "accepted\t"
+
+-- how the line of a refused block begins
+unfoldable pub refusedWord : List ℕ
+refusedWord = ascii "refused\t"
+
+-- a number in decimal, and the byte after it
+unfoldable pub field : ℕ → ℕ → List ℕ
+field n end = decimal n ++ end ∷ []
+
+-- an opcode's number in capital hex: two digits, and four after 0F
+unfoldable pub opcodeText : ℕ → List ℕ
+opcodeText k = pick (ltb k 0x100) (hexadecimal 2 k) (hexadecimal 4 (0x0F00 + k % 0x100))
+
+-- an instruction's line: its offset, its length and its opcode
+unfoldable pub lineOf : ℕ → Decoded → List ℕ
+lineOf i d = field i tab ++ field (d .length) tab ++ opcodeText (d .opcode) ++ newline ∷ []
+
+-- the line of an instruction found at offset i, and what follows it
+unfoldable pub lineThen : ℕ → Found → (ℕ → List ℕ) → List ℕ
+lineThen i (Found.Instruction d) later = lineOf i d ++ later (i + d .length)
+lineThen i Found.Cut later = []
+lineThen i Found.Unknown later = []
+
+-- the lines of n instructions that stand one after another, from offset i on
+unfoldable pub linesFrom : List ℕ → ℕ → ℕ → List ℕ
+linesFrom code zero i = []
+linesFrom code (suc n) i = lineThen i (decodeOf code i) (linesFrom code n)
+
+-- the line of a refused block: the number and the offset
+unfoldable pub refusal : Verdict → List ℕ
+refusal v = refusedWord ++ field (numberOf v) tab ++ field (valueOf v) newline
+
+-- what follows the header
+unfoldable pub bodyOf : List ℕ → Verdict → List ℕ
+bodyOf code (Accepted n) = linesFrom code n 0 ++ acceptedWord ++ field n newline
+bodyOf code BadLength = refusal BadLength
+bodyOf code BadMarks = refusal BadMarks
+bodyOf code (CutAt i) = refusal (CutAt i)
+bodyOf code (UnknownAt i) = refusal (UnknownAt i)
+bodyOf code (AstrayAt i) = refusal (AstrayAt i)
+
+-- the whole text
+unfoldable pub textOf : List ℕ → Verdict → List ℕ
+textOf code v = header ++ bodyOf code v
+
+-- as long as the header, 65,536 lines of 12 bytes and the last line: no text is longer
+abbrev pub longest : ℕ
+longest = 786468
+
+-- a block is listed: the check's answer, its marks, and its text from the start of a buffer on
+pub record Listed (code marks out : List ℕ) (next : ℕ) (marksAfter outAfter : List ℕ) : Type 0 where
+  pub verdict : Verdict
+  pub judged : Judged code marks verdict marksAfter
+  pub wrote : Wrote out 0 (textOf code verdict) next outAfter

@@ -1,0 +1,59 @@
+// A line for each instruction of a block.
+use grammar::decode::Decoded;
+use grammar::decode::Found;
+use grammar::decode::decode;
+use text::put_byte;
+use text::put_decimal;
+use text::put_hex;
+ghost use Rattle.text.specs.Written.{Wrote};
+ghost use Rattle.listing_text.specs.Listing.{field, opcodeText, lineOf, linesFrom};
+
+// A number in decimal, and the byte after it.
+pub fn put_field(out: &mut [u8], at: usize, n: usize, end: u8) -> usize
+    ensures { λ r. ⌜ Wrote (now (out .entry)) at (field n end) r (now (out .exit)) ⌝ }
+{
+    let next = put_decimal(out, at, n as u64);
+    put_byte(out, next, end)
+}
+
+// An opcode in capital hex: two digits, and four after 0F.
+fn put_opcode(out: &mut [u8], at: usize, opcode: usize) -> usize
+    ensures { λ r. ⌜ Wrote (now (out .entry)) at (opcodeText opcode) r (now (out .exit)) ⌝ }
+{
+    let k = opcode as u64;
+    if k < 0x100 {
+        return put_hex(out, at, 2, k);
+    }
+    put_hex(out, at, 4, 0x0F00 + k % 0x100)
+}
+
+// The line of an instruction at an offset.
+fn put_line(out: &mut [u8], at: usize, offset: usize, instruction: Decoded) -> usize
+    ensures { λ r. ⌜ Wrote (now (out .entry)) at (lineOf offset instruction) r (now (out .exit)) ⌝ }
+{
+    let past_offset = put_field(out, at, offset, b'\t');
+    let past_length = put_field(out, past_offset, instruction.length, b'\t');
+    let past_opcode = put_opcode(out, past_length, instruction.opcode);
+    put_byte(out, past_opcode, b'\n')
+}
+
+// The lines of so many instructions, from the code's start on.
+pub fn put_lines(code: &[u8], count: usize, out: &mut [u8], at: usize) -> usize
+    ensures { λ r. ⌜ Wrote (now (out .entry)) at (linesFrom (now (code .entry)) count 0) r (now (out .exit)) ⌝ }
+{
+    let mut next = at;
+    let mut offset = 0;
+    let mut left = count;
+    while left > 0 {
+        match decode(code, offset) {
+            Found::Instruction(instruction) => {
+                next = put_line(out, next, offset, instruction);
+                offset += instruction.length;
+                left -= 1;
+            }
+            Found::Cut => return next,
+            Found::Unknown => return next,
+        }
+    }
+    next
+}

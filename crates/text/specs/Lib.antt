@@ -1,0 +1,4 @@
+-- The definitions of `text`. Assumes nothing.
+pub mod Ascii
+pub mod Written
+pub mod Digits
