@@ -9,7 +9,8 @@ use lib.ListN.{length, take}
 use Rattle.grammar.specs.Choice.{pick}
 use Rattle.grammar.specs.Opcodes.{ruleOf, entryOf, listed, forms, with66}
 use Rattle.grammar.specs.Grammar.{Instruction, done, next}
-use Rattle.grammar.specs.Answers.{Answers, littleEndian, displaced}
+use Rattle.width.specs.LittleEndian.{littleEndian}
+use Rattle.grammar.specs.Answers.{Answers, displaced}
 use Rattle.grammar.specs.Reading.{run, bytesThen}
 use Rattle.grammar.specs.Decoding.{tree, firstTree, opcodeTree, entryTree, accepts, operandTree, modrmTree, tailTree, found, answer, decodeOf}
 use Rattle.grammar.specs.Relative.{relativeOf}

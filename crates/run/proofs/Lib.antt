@@ -3,5 +3,8 @@ pub mod Commits
 pub mod Places
 pub mod Going
 pub mod Handing
+pub mod Planned
 pub mod Kept
 pub mod Law
+pub mod Unreadable
+pub mod Repeated

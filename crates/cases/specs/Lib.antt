@@ -1,0 +1,2 @@
+-- The definitions of `cases`. Assumes nothing.
+pub mod Table

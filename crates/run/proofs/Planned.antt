@@ -1,0 +1,84 @@
+-- The step of a plan: it stops with 5, 6 or 7, or goes on to the machine of its effect. Assumes nothing.
+use mathlib.Core.Path.{_≡_, refl}
+use mathlib.Core.List.{List}
+use Prim.Native.Nat.{ℕ, _≤_}
+use native.Mathlib.Omega.{arith}
+use lib.ListN.{length}
+use Rattle.machine.specs.declared.registers.Machine.{Machine}
+use Rattle.machine.specs.declared.memory.Loaded.{Loaded}
+use Rattle.machine.specs.declared.memory.Loaded.the-variants.{Value}
+use Rattle.machine.specs.declared.memory.Stored.{Stored}
+use Rattle.machine.specs.declared.memory.Stored.the-variants.{Done}
+use Rattle.machine.specs.Memory.{loadOf}
+use Rattle.machine.proofs.Access.{store-length}
+use Rattle.plan.specs.declared.Plan.{Plan}
+use Rattle.effect.specs.declared.outcome.Outcome.{Outcome}
+use Rattle.effect.specs.declared.outcome.Outcome.the-variants.{Becomes, Writes, Faults}
+use Rattle.effect.specs.declared.outcome.Reads.{Reads}
+use Rattle.effect.specs.declared.outcome.Reads.the-variants.{Nothing, One, Two}
+use Rattle.effect.specs.All.{effectBy}
+use Rattle.run.specs.Steps.{Moved, next, stop, stored, committed, finished, loaded, performed, planned}
+
+-- the step of a plan goes on to the machine of its effect, with data of the same length, or stops with a number from 5 to 7
+pub data Comes (p : Plan) (m : Machine) (d : List ℕ) : Moved → Type 0 where
+  goes-on : (r s : ℕ) {d′ : List ℕ} → length d′ ≡ length d → Comes p m d (next ((effectBy (p .operation) m p r s) .machine) d′)
+  stops : (n : ℕ) {a : ℕ} → 5 ≤ n → n ≤ 7 → Comes p m d (stop n a)
+
+-- the machine after the effect of a plan, with what was read
+pub record Effected (p : Plan) (m after : Machine) : Type 0 where
+  pub r : ℕ
+  pub s : ℕ
+  pub is : after ≡ (effectBy (p .operation) m p r s) .machine
+
+module _ (p : Plan) (m : Machine) (d : List ℕ) where
+  -- so it is with a write
+  stored-comes : (answer : Stored) (r s : ℕ) → Comes p m d (stored answer (effectBy (p .operation) m p r s) d)
+  unfolding stored
+  stored-comes Done r s = goes-on r s (store-length d _ _ _)
+  stored-comes (Stored.Outside a) r s = stops 6 (omega arith) (omega arith)
+
+  -- with an effect
+  committed-comes : (o : Outcome) (r s : ℕ) → Comes p m d (committed o (effectBy (p .operation) m p r s) m d)
+  unfolding committed
+  committed-comes Becomes r s = goes-on r s refl
+  committed-comes Writes r s = stored-comes _ r s
+  committed-comes Faults r s = stops 7 (omega arith) (omega arith)
+
+  -- with the effect of what was read
+  finished-comes : (r s : ℕ) → Comes p m d (finished p m d r s)
+  unfolding finished
+  finished-comes r s = committed-comes _ r s
+
+  -- with a read, if it is so with what follows
+  loaded-comes : (answer : Loaded) (go : ℕ → Moved) → ((v : ℕ) → Comes p m d (go v)) → Comes p m d (loaded answer go)
+  unfolding loaded
+  loaded-comes (Value v) go h = h v
+  loaded-comes (Loaded.Outside a) go h = stops 5 (omega arith) (omega arith)
+
+  -- with the reads, and then the effect
+  performed-comes : (reads : Reads) → Comes p m d (performed reads p m d)
+  unfolding performed
+  performed-comes Nothing = finished-comes 0 0
+  performed-comes (One w a) = loaded-comes (loadOf d w a) _ (λ r. finished-comes r 0)
+  performed-comes (Two w a b) = loaded-comes (loadOf d w a) _ (λ r. loaded-comes (loadOf d w b) _ (λ s. finished-comes r s))
+
+  -- with the step of a plan
+  pub planned-comes : Comes p m d (planned p m d)
+  unfolding planned
+  planned-comes = performed-comes _
+
+  -- the step of a plan stops only with 5, 6 or 7
+  pub planned-stops : {n a : ℕ} → planned p m d ≡ stop n a → (5 ≤ n) × (n ≤ 7)
+  planned-stops {n} {a} = by planned-comes
+    where
+      by : {moved : Moved} → Comes p m d moved → moved ≡ stop n a → (5 ≤ n) × (n ≤ 7)
+      by (goes-on r s l) e = absurd (let z : _≡_ {A = ℕ} 0 1 = cc in omega arith)
+      by (stops k l h) e = let z : n ≡ k = cc in (omega arith, omega arith)
+
+  -- and goes on only to the machine of its effect
+  pub planned-goes : {m′ : Machine} {d′ : List ℕ} → planned p m d ≡ next m′ d′ → Effected p m m′
+  planned-goes {m′} {d′} = by planned-comes
+    where
+      by : {moved : Moved} → Comes p m d moved → moved ≡ next m′ d′ → Effected p m m′
+      by (goes-on r s l) e = record { r = r; s = s; is = cc }
+      by (stops k l h) e = absurd (let z : _≡_ {A = ℕ} 0 1 = cc in omega arith)

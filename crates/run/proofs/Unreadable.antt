@@ -1,0 +1,127 @@
+-- Numbers 3 and 4 by the grammar: exactly where the bytes from EIP to the code's end are cut, or no such instruction. Assumes nothing.
+use mathlib.Core.Path.{_≡_, refl, sym, _∙_}
+use mathlib.Core.Logic.{_↔_}
+use mathlib.Core.Bool.{Bool, true, false}
+use mathlib.Core.List.{List}
+use Prim.Native.Nat.{ℕ, _-_, _<_, _≤_}
+use native.Mathlib.Omega.{arith}
+use lib.Dec.{leb, ltb, eqb}
+use lib.ListN.{length, drop}
+use borrow.Author.Tests.{eqb-true, eqb-false, leb-true, leb-false, ltb-true, ltb-false}
+use Rattle.machine.specs.declared.registers.Machine.{Machine}
+use Rattle.grammar.specs.declared.decode.Found.{Found}
+use Rattle.grammar.specs.Answers.{Begins, Prefix, cut, unknown}
+use Rattle.grammar.specs.Decoding.{decodeOf}
+use Rattle.grammar.proofs.Answered.{found-cut, found-unknown, answers-decode}
+use Rattle.blockcheck.specs.Blocks.{codeBase}
+use Rattle.run.specs.Steps.{stop, home, executed, stepOf}
+use Rattle.run.proofs.Places.{at-home, below-code, past-code, in-code}
+use Rattle.run.proofs.Planned.{planned-stops}
+
+-- EIP is inside the code, and not home
+pub record InCode (code : List ℕ) (m : Machine) : Type 0 where
+  pub away : m .eip ≡ home → ⊥
+  pub low : codeBase ≤ m .eip
+  pub high : m .eip - codeBase < length code
+
+-- the bytes from EIP to the code's end
+abbrev pub fromEip : List ℕ → Machine → List ℕ
+fromEip code m = drop (m .eip - codeBase) code
+
+-- inside the code a step is that of what decode finds at EIP
+pub step-found : (code : List ℕ) (m : Machine) (d : List ℕ) → InCode code m
+    → stepOf code m d ≡ executed (decodeOf code (m .eip - codeBase)) m d
+step-found code m d p = in-code code m d (p .away) (p .low) (p .high)
+
+-- what 3 at the address a means: cut
+pub record IsCut (code : List ℕ) (m : Machine) (a : ℕ) : Type 0 where
+  pub place : InCode code m
+  pub address : a ≡ m .eip
+  pub prefix : Prefix (fromEip code m)
+
+-- what 4 at the address a means: no such instruction
+pub record IsUnknown (code : List ℕ) (m : Machine) (a : ℕ) : Type 0 where
+  pub place : InCode code m
+  pub address : a ≡ m .eip
+  pub begins-with-none : Begins (fromEip code m) → ⊥
+  pub no-prefix : Prefix (fromEip code m) → ⊥
+
+-- why a step stops with the number n and the address a
+data Halts (code : List ℕ) (m : Machine) (n a : ℕ) : Type 0 where
+  first : n ≡ 1 → Halts code m n a
+  second : n ≡ 2 → Halts code m n a
+  third : n ≡ 3 → IsCut code m a → Halts code m n a
+  fourth : n ≡ 4 → IsUnknown code m a → Halts code m n a
+  late : 5 ≤ n → n ≤ 7 → Halts code m n a
+
+module _ (code : List ℕ) (m : Machine) (d : List ℕ) where
+  -- inside the code it stops as the grammar says, or late
+  halts-inside : (n a : ℕ) → InCode code m → stepOf code m d ≡ stop n a → Halts code m n a
+  unfolding executed
+  halts-inside n a p e = by (decodeOf code at) refl (sym (step-found code m d p) ∙ e)
+    where
+      at : ℕ
+      at = m .eip - codeBase
+
+      by : (f : Found) → decodeOf code at ≡ f → executed f m d ≡ stop n a → Halts code m n a
+      by (Found.Instruction i) f e = let h = planned-stops _ m d e in late (h .0) (h .1)
+      by Found.Cut f e = third (cc) (record { place = p; address = cc; prefix = found-cut code at f })
+      by Found.Unknown f e =
+          let h = found-unknown code at f in
+          fourth (cc) (record { place = p; address = cc; begins-with-none = h .0; no-prefix = h .1 })
+
+  -- a step that stops, wherever EIP is
+  halts : (n a : ℕ) → stepOf code m d ≡ stop n a → Halts code m n a
+  halts n a e = by (eqb (m .eip) home) (leb codeBase (m .eip)) (ltb (m .eip - codeBase) (length code)) refl refl refl
+    where
+      by : (x y z : Bool) → eqb (m .eip) home ≡ x → leb codeBase (m .eip) ≡ y → ltb (m .eip - codeBase) (length code) ≡ z
+          → Halts code m n a
+      by true y z h low high = first (cc (at-home code m d (eqb-true _ _ h)))
+      by false false z h low high = second (cc (below-code code m d (eqb-false _ _ h) (leb-false _ _ low)))
+      by false true false h low high =
+          second (cc (past-code code m d (eqb-false _ _ h) (leb-true _ _ low) (ltb-false _ _ high)))
+      by false true true h low high =
+          halts-inside n a (record { away = eqb-false _ _ h; low = leb-true _ _ low; high = ltb-true _ _ high }) e
+
+  -- 3 comes exactly where the bytes from EIP to the code's end are a proper prefix of some instruction, with EIP
+  pub cut-exactly : (a : ℕ) → (stepOf code m d ≡ stop 3 a) ↔ IsCut code m a
+  unfolding executed
+  cut-exactly a = (λ e. by (halts 3 a e), back)
+    where
+      by : Halts code m 3 a → IsCut code m a
+      by (first e) = absurd (omega arith)
+      by (second e) = absurd (omega arith)
+      by (third e h) = h
+      by (fourth e h) = absurd (omega arith)
+      by (late l h) = absurd (omega arith)
+
+      back : IsCut code m a → stepOf code m d ≡ stop 3 a
+      back h = step-found code m d (h .place) ∙ rw (answers-decode code (m .eip - codeBase) (cut (h .prefix)), h .address)
+
+  -- 4 comes exactly where they neither begin with one nor are such a prefix, with EIP
+  pub unknown-exactly : (a : ℕ) → (stepOf code m d ≡ stop 4 a) ↔ IsUnknown code m a
+  unfolding executed
+  unknown-exactly a = (λ e. by (halts 4 a e), back)
+    where
+      by : Halts code m 4 a → IsUnknown code m a
+      by (first e) = absurd (omega arith)
+      by (second e) = absurd (omega arith)
+      by (third e h) = absurd (omega arith)
+      by (fourth e h) = h
+      by (late l h) = absurd (omega arith)
+
+      back : IsUnknown code m a → stepOf code m d ≡ stop 4 a
+      back h =
+          step-found code m d (h .place)
+          ∙ rw (answers-decode code (m .eip - codeBase) (unknown (h .begins-with-none) (h .no-prefix)), h .address)
+
+  -- a step that stops has a number from 1 to 7
+  pub stops-between : (n a : ℕ) → stepOf code m d ≡ stop n a → (1 ≤ n) × (n ≤ 7)
+  stops-between n a e = by (halts n a e)
+    where
+      by : Halts code m n a → (1 ≤ n) × (n ≤ 7)
+      by (first e) = (omega arith, omega arith)
+      by (second e) = (omega arith, omega arith)
+      by (third e h) = (omega arith, omega arith)
+      by (fourth e h) = (omega arith, omega arith)
+      by (late l h) = (omega arith, omega arith)

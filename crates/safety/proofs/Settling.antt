@@ -1,0 +1,121 @@
+-- A step of acceptable code from a settled address goes on to a settled one, or stops with neither 3 nor 4. Assumes nothing.
+use mathlib.Core.Path.{_≡_, refl, ap, _∙_}
+use mathlib.Core.Logic.{⊎-elim}
+use mathlib.Core.Bool.{Bool, true, false, cond}
+use mathlib.Core.List.{List}
+use Prim.Native.Nat.{ℕ, _+_, _-_, _%_, _^_, _<_, _≤_}
+use native.Mathlib.Omega.{arith}
+use lib.Dec.{eqb}
+use lib.ListN.{length}
+use lib.IntN.{pos}
+use borrow.Author.Tests.{le-leb, le-ltb}
+use Rattle.width.specs.declared.Size.the-variants.{Dword}
+use Rattle.width.specs.Sizes.{bits, modulus}
+use Rattle.width.specs.Numbers.{rest, residue}
+use Rattle.machine.specs.declared.registers.Machine.{Machine}
+use Rattle.grammar.specs.Decoding.{decodeOf}
+use Rattle.grammar.specs.Relative.{relativeOf}
+use Rattle.grammar.specs.declared.decode.Decoded.{Decoded}
+use Rattle.grammar.specs.declared.decode.Found.{Found}
+use Rattle.grammar.specs.declared.relative.Relative.{Relative}
+use Rattle.grammar.proofs.Answered.{found-standing, found-inside}
+use Rattle.blockcheck.specs.Blocks.{codeBase, targetOf}
+use Rattle.blockcheck.specs.Starts.{Start, Acceptable}
+use Rattle.blockcheck.proofs.Starts.{start-decodes, falls-through, displacement-lands}
+use Rattle.plan.specs.Plans.{planFor, planOf, nextOf, leads}
+use Rattle.effect.specs.declared.outcome.Effect.{Effect}
+use Rattle.effect.proofs.Ways.{Way, stays, falls, way}
+use Rattle.run.specs.Steps.{Moved, next, stop, home, inside, executed, stepOf}
+use Rattle.run.proofs.Places.{at-home, in-code}
+use Rattle.safety.specs.Guidance.{Settled, at-start, outside, indirectFound, indirectAt, Readable}
+use Rattle.run.proofs.Planned.{Comes, goes-on, stops, planned-comes}
+
+-- what holds of both of two things holds of the one chosen
+pub chosen : {A : Type 0} (P : A → Type 0) (b : Bool) {x y : A} → P x → P y → P (cond b x y)
+chosen P true x y = x
+chosen P false x y = y
+
+-- a number that is tested for before 3 and 4
+pub early : (n : ℕ) → n < 3 → Readable n
+early n h = record { not-cut = λ e. omega arith; not-unknown = λ e. omega arith }
+
+-- a number that is tested for after them
+pub late : (n : ℕ) → 5 ≤ n → Readable n
+late n h = record { not-cut = λ e. omega arith; not-unknown = λ e. omega arith }
+
+-- a step goes on to a settled address, unless through a register or memory, or it stops with neither 3 nor 4
+pub data Safe (code : List ℕ) (m : Machine) : Moved → Type 0 where
+  goes : {m′ : Machine} {d′ : List ℕ} → (indirectAt code m ≡ false → Settled code (m′ .eip)) → Safe code m (next m′ d′)
+  halts : {n a : ℕ} → Readable n → Safe code m (stop n a)
+
+-- EIP wraps at 2^32
+wraps : (n : ℕ) → rest Dword (pos n) ≡ n % 2 ^ 32
+unfolding rest residue modulus bits
+wraps n = refl
+
+-- the code's end is outside the code
+end-outside : (code : List ℕ) → inside code (codeBase + length code) ≡ false
+unfolding inside codeBase
+end-outside code =
+    rw (
+      le-leb 0x0001_0000 (0x0001_0000 + length code) (omega arith),
+      le-ltb (0x0001_0000 + length code) (0x0001_0000 + length code) (omega arith),
+    )
+
+module _ {code : List ℕ} (ok : Acceptable code) (m : Machine) {i : ℕ} (start : Start code i) (at : m .eip ≡ codeBase + i)
+    (x : Decoded) (found : decodeOf code i ≡ Found.Instruction x) where
+  -- the next instruction's address does not wrap
+  next-address : nextOf m x ≡ codeBase + (i + x .length)
+  unfolding nextOf codeBase
+  next-address =
+      let sized = ok .sized in
+      let ends = found-inside code i x found in
+      rw (wraps, at) (omega arith)
+
+  -- the next instruction's address is settled
+  next-settled : Settled code (nextOf m x)
+  next-settled =
+      rw next-address
+      (⊎-elim (λ s. at-start s refl) (λ e. outside (rw e (end-outside code))) (falls-through start x found))
+
+  -- so is where the displacement leads
+  target-settled : (by : Relative) → relativeOf x ≡ by → Settled code (leads by (nextOf m x))
+  unfolding leads targetOf
+  target-settled Relative.Absent e = next-settled
+  target-settled (Relative.By y) e =
+      let (s, lands, address) = displacement-lands start x found ok y e in
+      at-start lands (rw (next-address, wraps) (ap (λ (n : ℕ). n % 2 ^ 32) (omega arith) ∙ address))
+
+  -- so is the address after any effect that does not go through a register or memory
+  way-settled : {e : Effect} → Way m (planOf m x) e → Settled code (e .machine .eip)
+  unfolding planOf planFor
+  way-settled (stays e) = at-start start (e ∙ at)
+  way-settled (falls e) = rw e next-settled
+  way-settled (Way.leads e) = rw e (target-settled (relativeOf x) refl)
+
+  -- the step of the instruction is safe
+  comes-safe : {d : List ℕ} {moved : Moved} → Comes (planOf m x) m d moved → Safe code m moved
+  unfolding indirectAt indirectFound codeBase
+  comes-safe (goes-on r s l) =
+      let place : m .eip - codeBase ≡ i = omega arith in
+      goes (λ direct. way-settled (way ((planOf m x) .operation) m (planOf m x) r s (rw (place, found) at direct)))
+  comes-safe (stops n low high) = halts (late n low)
+
+module _ {code : List ℕ} (ok : Acceptable code) (m : Machine) (d : List ℕ) where
+  -- outside the code a step stops with 1 or 2
+  outside-safe : inside code (m .eip) ≡ false → Safe code m (stepOf code m d)
+  unfolding stepOf
+  outside-safe e = rw e (chosen (Safe code m) (eqb (m .eip) home) (halts (early 1 (omega arith))) (halts (early 2 (omega arith))))
+
+  -- from a settled address every step is safe
+  pub step-safe : Settled code (m .eip) → Safe code m (stepOf code m d)
+  unfolding home codeBase executed
+  step-safe (at-start {s} start at) =
+      let (x, found, ends) = start-decodes start in
+      let some = (found-standing code s x found) .some in
+      let sized = ok .sized in
+      let place : m .eip - codeBase ≡ s = omega arith in
+      rw (in-code code m d (λ e. omega arith) (omega arith) (omega arith), place, found)
+      (comes-safe ok m start at x found (planned-comes (planOf m x) m d))
+  step-safe (Settled.at-home e) = rw (at-home code m d e) (halts (early 1 (omega arith)))
+  step-safe (outside e) = outside-safe e

@@ -1,0 +1,2 @@
+-- The definitions of `safety`. Assumes nothing.
+pub mod Guidance
