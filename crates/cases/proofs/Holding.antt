@@ -1,7 +1,8 @@
--- All of the table of document 01's marked cases holds of the written rules. Assumes nothing.
+-- All of the table of document 01's cases holds of the written rules. Assumes nothing.
 use mathlib.Core.Path.{refl}
 use mathlib.Core.List.{List, [], _∷_, _++_, map}
-use lib.Count.{ones, onesIn}
+use lib.Count.{ones}
+use Rattle.width.specs.LittleEndian as LittleEndian
 use Rattle.width.specs.Sizes as Sizes
 use Rattle.width.specs.Numbers as Numbers
 use Rattle.flags.specs.Results as Results
@@ -13,14 +14,12 @@ use Rattle.shift.specs.Values as Values
 use Rattle.shift.specs.Changes as Changes
 use Rattle.product.specs.Divide as Divide
 use Rattle.machine.specs.Registers as Registers
-use Rattle.grammar.specs.Choice as Choice
+use Rattle.machine.specs.Memory as Memory
 use Rattle.grammar.specs.Opcodes as Opcodes
 use Rattle.grammar.specs.Grammar as Grammar
-use Rattle.width.specs.LittleEndian as LittleEndian
 use Rattle.grammar.specs.Answers as Answers
 use Rattle.grammar.specs.Reading as Reading
 use Rattle.grammar.specs.Decoding as Decoding
-use Rattle.grammar.specs.Relative as Relative
 use Rattle.grammar.specs.Cases as Bytes
 use Rattle.grammar.proofs.Cases.{case13-holds}
 use Rattle.sense.specs.Operations as Operations
@@ -30,39 +29,51 @@ use Rattle.plan.specs.Plans as Plans
 use Rattle.effect.specs.Words as Words
 use Rattle.effect.specs.Arithmetic as Arithmetic
 use Rattle.effect.specs.Moves as Moves
+use Rattle.effect.specs.Branches as Branches
+use Rattle.effect.specs.Strings as Strings
 use Rattle.effect.specs.All as Effects
 use Rattle.blockcheck.specs.Blocks.{codeBase}
 use Rattle.blockcheck.proofs.Cases as Blocks
 use Rattle.run.specs.Steps as Steps
 use Rattle.run.specs.Runs as Runs
-use Rattle.cases.specs.Table.{Gives, Case, bytes, block, Holds, All, cases-1-to-9, table}
+use Rattle.cases.specs.Lines.{Gives, Case, bytes, block, Holds, All}
+use Rattle.cases.specs.Table.{cases-1-to-12, table}
 use Rattle.cases.proofs.Keeping.{keeps-machine}
 
--- the cases of one step: all but the one for any machine compute
-one-step-holds : All cases-1-to-9
-unfolding All Holds Gives cases-1-to-9
-    Sizes.bits Sizes.modulus Sizes.half
+-- the cases of a run: all but the one for any machine compute
+runs-hold : All cases-1-to-12
+unfolding All Holds Gives cases-1-to-12 ones codeBase
+    LittleEndian.littleEndian LittleEndian.bytesOf
+    Sizes.bits Sizes.modulus Sizes.half Sizes.bytes
     Numbers.bit Numbers.bitAt Numbers.residue Numbers.rest Numbers.beyond Numbers.meaning Numbers.signed Numbers.outside Numbers.negative
-    ones onesIn Results.undefinedFlag Results.parity Results.resulting Word.wordOf Word.flagsOf Word.passes
-    Sums.valueOf Sums.carries Sums.adjusts Sums.overflows Sums.flagsOf Binary.sumFlags Binary.binaryValue Binary.binaryFlags
+    Results.undefinedFlag Results.parity Results.resulting
+    Word.wordOf Word.flagsOf Word.passes
+    Sums.valueOf Sums.carries Sums.adjusts Sums.overflows Sums.flagsOf
+    Binary.sumFlags Binary.binaryValue Binary.binaryFlags
     Single.singleValue Single.singleFlags
     Values.masked Values.turnedRight Values.turnedLeft Values.shifted Values.shiftValue
     Changes.carryAfter Changes.overflowOnce Changes.overflowAfter Changes.rotateFlags Changes.changed Changes.flagsAfter Changes.shiftFlags
     Divide.joined Divide.divided Divide.dividedUnsigned Divide.dividedSigned Divide.unsignedDivision Divide.signedDivision Divide.divisionFlags
     Registers.register Registers.withRegister Registers.withEip Registers.withFlags Registers.holder Registers.lowest Registers.bitsFrom Registers.part Registers.replaced Registers.withPart
-    Choice.pick Opcodes.listed Opcodes.forms Opcodes.with66 Opcodes.entryOf Opcodes.ruleOf Grammar.sibLength Grammar.bareLength
-    LittleEndian.littleEndian Answers.displaced Reading.run Reading.bytesThen
-    Decoding.tailTree Decoding.addressTree Decoding.modrmTree Decoding.operandTree Decoding.accepts Decoding.entryTree Decoding.opcodeTree Decoding.firstTree Decoding.tree Decoding.answer Decoding.found Decoding.decodeOf
-    Relative.relativeOf Operations.binaryAt Operations.shiftAt Operations.productAt Operations.operationOf Senses.senses Senses.senseOf
+    Memory.base Memory.allowed Memory.loadOf Memory.storedOf Memory.storeOf
+    Opcodes.ruleOf
+    Grammar.sibLength Grammar.bareLength
+    Answers.displaced
+    Reading.run Reading.bytesThen
+    Decoding.tailTree Decoding.addressTree Decoding.modrmTree Decoding.operandTree Decoding.accepts Decoding.entryTree Decoding.opcodeTree Decoding.firstTree Decoding.tree Decoding.answer Decoding.found Decoding.decodeOf Decoding.repeatTree
+    Operations.binaryAt Operations.shiftAt Operations.productAt Operations.operationOf
+    Senses.senses Senses.senseOf
     Addresses.scaledIndex Addresses.baseRegister Addresses.addressBase Addresses.effectiveAddress
-    Plans.sizeOf Plans.operandOf Plans.nextOf Plans.planFor Plans.leads Plans.planOf
-    Words.becomes Words.faults Words.onward Words.value Words.assign Words.addressOf Words.readOr Words.readOf
+    Plans.sizeOf Plans.operandOf Plans.nextOf Plans.planFor Plans.planOf
+    Words.becomes Words.faults Words.onward Words.value Words.assign Words.addressOf Words.readOr Words.readOf Words.writes
     Arithmetic.arithmeticReads Arithmetic.settled Arithmetic.binary Arithmetic.single Arithmetic.shift Arithmetic.upper Arithmetic.doubled Arithmetic.quotient Arithmetic.divided Arithmetic.dividedSigned Arithmetic.arithmeticEffect
-    Moves.moveReads Moves.moveEffect Effects.readsBy Effects.effectBy
-    codeBase
-    Steps.home Steps.inside Steps.committed Steps.finished Steps.performed Steps.planned Steps.executed Steps.stepOf
+    Moves.moveReads Moves.moveEffect
+    Branches.counted
+    Strings.passed Strings.round Strings.roundReads Strings.compares Strings.over Strings.repeated Strings.withMachine Strings.idle Strings.stringReads Strings.rounded Strings.stringEffect
+    Effects.readsBy Effects.effectBy
+    Steps.home Steps.inside Steps.committed Steps.finished Steps.performed Steps.planned Steps.executed Steps.stepOf Steps.stored Steps.loaded
     Runs.onMoved Runs.runFrom Runs.refusal Runs.opened Runs.closed Runs.taken Runs.runOf
-one-step-holds = (refl, (refl, (refl, (refl, (refl, (refl, (refl, (keeps-machine, (refl, (refl, tt))))))))))
+runs-hold = (refl, (refl, (refl, (refl, (refl, (refl, (refl, (keeps-machine, (refl, (refl, (refl, (refl, (refl, (refl, (refl, tt)))))))))))))))
 
 -- two tables that hold are one that holds
 both : (cases more : List Case) → All cases → All more → All (cases ++ more)
@@ -86,6 +97,6 @@ blocks-hold (c ∷ cases) h = (h .0, blocks-hold cases (h .1))
 pub all-hold : All table
 unfolding table
 all-hold =
-    both (cases-1-to-9 ++ map bytes Bytes.case13) (map block Blocks.case-14)
-    (both cases-1-to-9 (map bytes Bytes.case13) one-step-holds (bytes-hold Bytes.case13 case13-holds))
+    both (cases-1-to-12 ++ map bytes Bytes.case13) (map block Blocks.case-14)
+    (both cases-1-to-12 (map bytes Bytes.case13) runs-hold (bytes-hold Bytes.case13 case13-holds))
     (blocks-hold Blocks.case-14 Blocks.case-14-holds)

@@ -14,14 +14,12 @@ use Rattle.shift.specs.Values as Values
 use Rattle.shift.specs.Changes as Changes
 use Rattle.shift.proofs.Cases as Shifts
 use Rattle.machine.specs.Registers as Registers
-use Rattle.grammar.specs.Choice as Choice
 use Rattle.grammar.specs.Opcodes as Opcodes
 use Rattle.grammar.specs.Grammar as Grammar
 use Rattle.width.specs.LittleEndian as LittleEndian
 use Rattle.grammar.specs.Answers as Answers
 use Rattle.grammar.specs.Reading as Reading
 use Rattle.grammar.specs.Decoding as Decoding
-use Rattle.grammar.specs.Relative as Relative
 use Rattle.sense.specs.Operations as Operations
 use Rattle.sense.specs.Senses as Senses
 use Rattle.plan.specs.Plans as Plans
@@ -31,7 +29,7 @@ use Rattle.effect.specs.All as Effects
 use Rattle.blockcheck.specs.Blocks.{codeBase}
 use Rattle.run.specs.Steps as Steps
 use Rattle.run.specs.Runs as Runs
-use Rattle.cases.specs.Table.{Gives, Keeps}
+use Rattle.cases.specs.Lines.{Gives, Keeps}
 
 -- RCL of AL by 9 keeps AL and the flags
 kept : (al : ℕ) (f : Flags) → al < 2 ^ 8 → (Values.shiftValue Rcl Byte al 9 (f .cf) ≡ al) × (Changes.shiftFlags Rcl Byte al 9 f ≡ f)
@@ -53,11 +51,11 @@ pub keeps-machine : Keeps (0xC0 ∷ 0xD0 ∷ 0x09 ∷ [])
 unfolding Keeps Gives
     Sizes.bits Sizes.modulus Numbers.residue Numbers.rest
     Registers.register Registers.withRegister Registers.withEip Registers.withFlags Registers.holder Registers.lowest Registers.part Registers.withPart
-    Choice.pick Opcodes.listed Opcodes.forms Opcodes.with66 Opcodes.entryOf Opcodes.ruleOf Grammar.sibLength Grammar.bareLength
+    Opcodes.ruleOf Grammar.sibLength Grammar.bareLength
     LittleEndian.littleEndian Answers.displaced Reading.run Reading.bytesThen
     Decoding.tailTree Decoding.addressTree Decoding.modrmTree Decoding.operandTree Decoding.accepts Decoding.entryTree Decoding.opcodeTree Decoding.firstTree Decoding.tree Decoding.answer Decoding.found Decoding.decodeOf
-    Relative.relativeOf Operations.shiftAt Operations.operationOf Senses.senses Senses.senseOf
-    Plans.sizeOf Plans.operandOf Plans.nextOf Plans.planFor Plans.leads Plans.planOf
+    Operations.shiftAt Operations.operationOf Senses.senses Senses.senseOf
+    Plans.sizeOf Plans.operandOf Plans.nextOf Plans.planFor Plans.planOf
     Words.becomes Words.onward Words.value Words.assign Words.readOr Words.readOf
     Arithmetic.arithmeticReads Arithmetic.shift Arithmetic.arithmeticEffect
     Effects.readsBy Effects.effectBy

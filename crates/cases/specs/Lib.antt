@@ -1,2 +1,3 @@
 -- The definitions of `cases`. Assumes nothing.
+pub mod Lines
 pub mod Table

@@ -9,7 +9,8 @@ use borrow.Author.Tests.{lt-ltb, le-ltb}
 use Rattle.grammar.specs.Choice.{pick}
 use Rattle.grammar.specs.Grammar.{Opcode, alone, after0F, opcodeByte, opcodeBytes, numberOf, Instruction, Cut, done, next}
 use Rattle.grammar.specs.Answers.{numbers}
-use Rattle.blockcheck.proofs.Cuts.{decodes-as, same-length}
+use Rattle.grammar.proofs.Answered.{instruction-found}
+use Rattle.blockcheck.proofs.Cuts.{same-length}
 use Rattle.text.specs.Digits.{hexadecimal}
 use Rattle.text.proofs.Numbers.{hexadecimal-byte}
 use Rattle.listing_text.specs.Listing.{tab, newline, field, opcodeText, lineOf, lineThen, linesFrom}
@@ -52,7 +53,7 @@ unfolding linesFrom lineThen cutLines
 lines-behind before done = refl
 lines-behind before (next {bytes} {code} {later = pieces} instruction later) =
     let i = length before in
-    let found = decodes-as instruction (before ++ (bytes ++ code)) i code (drop-append-seam before (bytes ++ code)) in
+    let found = instruction-found instruction (before ++ (bytes ++ code)) i code (drop-append-seam before (bytes ++ code)) in
     let behind = rw (append-assoc, length-append) at (lines-behind (before ++ bytes) later) in
     rw (found, same-line i instruction, same-length instruction) (ap (λ (l : List ℕ). instructionLine i bytes instruction ++ l) behind)
 

@@ -14,10 +14,9 @@ use Rattle.grammar.specs.Answers.{numbers}
 use Rattle.grammar.specs.Decoding.{decodeOf}
 use Rattle.grammar.specs.declared.decode.Decoded.{Decoded}
 use Rattle.grammar.specs.declared.decode.Found.{Found}
-use Rattle.grammar.proofs.Answered.{Standing, found-standing, found-inside}
+use Rattle.grammar.proofs.Answered.{Standing, found-standing, found-inside, instruction-some}
 use Rattle.blockcheck.specs.Blocks.{numberOf as refusalNumber, valueOf, Astray, Reached, Judged, bad-length, bad-marks, cut-at, unknown-at, astray-at, accepted}
 use Rattle.blockcheck.specs.declared.Verdict.{Verdict}
-use Rattle.blockcheck.proofs.Cuts.{piece-some}
 use Rattle.text.specs.Ascii.{ascii}
 use Rattle.text.specs.Digits.{hexadecimal}
 use Rattle.text.proofs.Writing.{within, wrote-whole}
@@ -94,7 +93,7 @@ lines-short code (suc n) i most = go (decodeOf code i) refl (λ k. lines-short c
 -- a cut has no more instructions than bytes
 pieces-few : {pieces : List (List ℕ)} {code : List ℕ} → Cut pieces code → length pieces ≤ length code
 pieces-few done = omega arith
-pieces-few (next instruction later) = rw length-append (omega (arith, piece-some instruction, pieces-few later))
+pieces-few (next instruction later) = rw length-append (omega (arith, instruction-some instruction, pieces-few later))
 
 -- an instruction that goes astray stands inside the code
 astray-inside : (starts : List ℕ) (i k : ℕ) {pieces : List (List ℕ)} {code : List ℕ} (cut : Cut pieces code) → Astray starts i cut k → k ≤ i + length code

@@ -1,0 +1,84 @@
+-- A line of a table of cases, and when it holds of the written rules. Assumes nothing.
+use mathlib.Core.Path.{_≡_}
+use mathlib.Core.Bool.{true}
+use mathlib.Core.List.{List, [], _∷_}
+use Prim.Native.Nat.{ℕ, _+_, _^_, _<_}
+use lib.ListN.{length}
+use Rattle.flags.specs.Word.{passes}
+use Rattle.grammar.specs.Cases as Bytes
+use Rattle.blockcheck.specs.Blocks.{codeBase}
+use Rattle.blockcheck.proofs.Cases as Blocks
+use Rattle.run.specs.declared.Lent.{Lent}
+use Rattle.run.specs.declared.Ran.{Ran}
+use Rattle.run.specs.Runs.{runOf}
+
+-- a run: what it is given, and the machine, steps, number and address that it gives back
+pub record Run : Type 0 where
+  pub code : List ℕ
+  pub given : Lent
+  pub area : List ℕ
+  pub budget : ℕ
+  pub back : Ran
+
+-- the run gives that back
+unfoldable pub Gives : Run → Type 0
+Gives c = runOf (c .code) (c .given) (c .area) (c .budget) .ran ≡ c .back
+
+-- a run that uses up its budget, and ends with this machine
+abbrev pub ends : List ℕ → Lent → List ℕ → ℕ → Lent → Run
+ends code given area budget after =
+    record {
+      code = code;
+      given = given;
+      area = area;
+      budget = budget;
+      back = record { machine = after; steps = budget; number = 0; address = after .eip };
+    }
+
+-- a run that is stopped after so many steps, with a number at an address, and then has this machine
+abbrev pub stops : List ℕ → Lent → List ℕ → ℕ → Lent → ℕ → ℕ → ℕ → Run
+stops code given area budget after steps number address =
+    record {
+      code = code;
+      given = given;
+      area = area;
+      budget = budget;
+      back = record { machine = after; steps = steps; number = number; address = address };
+    }
+
+-- a run of one step, with no data
+abbrev pub step : List ℕ → Lent → Lent → Run
+step code given after = ends code given [] 1 after
+
+-- a divide error in the first step: number 7 at EIP, and the machine as it was
+abbrev pub fault : List ℕ → Lent → Run
+fault code given = stops code given [] 1 given 0 7 (given .eip)
+
+-- the code's first step changes only EIP, whatever the registers and the flags are
+unfoldable pub Keeps : List ℕ → Type 0
+Keeps code =
+    (eax : ℕ) (others : List ℕ) (word : ℕ)
+    → eax < 2 ^ 32
+    → passes word ≡ true
+    → Gives
+    (step code (record { regs = eax ∷ others; eip = codeBase; word = word })
+    (record { regs = eax ∷ others; eip = codeBase + length code; word = word }))
+
+-- a line: a run, code that changes only EIP, what some bytes are, or what the block check answers
+pub data Case : Type 0 where
+  run : Run → Case
+  keeps : List ℕ → Case
+  bytes : Bytes.Case → Case
+  block : Blocks.Case → Case
+
+-- it holds; of the block check, whatever marks of the code's length are lent
+unfoldable pub Holds : Case → Type 0
+Holds (run c) = Gives c
+Holds (keeps code) = Keeps code
+Holds (bytes c) = Bytes.Holds (c .verdict) (c .bytes)
+Holds (block c) = (marks : List ℕ) → length marks ≡ length (c .code) → Blocks.Holds c marks
+
+-- each line of a table holds
+unfoldable pub All : List Case → Type 0
+All [] = Unit
+All (c ∷ cases) = Holds c × All cases

@@ -1,0 +1,91 @@
+-- What a call hands back fits its words: the steps of a run, and the count or the offset of a check. Assumes nothing.
+use mathlib.Core.Path.{_≡_, refl, ap}
+use mathlib.Core.Bool.{Bool, true, false, cond, not, _||_}
+use mathlib.Core.Logic.{inl, inr}
+use mathlib.Core.List.{List, _++_}
+use Prim.Native.Nat.{ℕ, zero, suc, _+_, _^_, _<_, _≤_}
+use native.Mathlib.Omega.{arith}
+use lib.Dec.{ltb, eqb}
+use lib.ListN.{length, length-append}
+use borrow.Author.Tests.{eqb-true, ltb-false}
+use Rattle.grammar.specs.Grammar.{Cut, done, next}
+use Rattle.grammar.proofs.Answered.{instruction-some}
+use Rattle.flags.specs.Word.{passes}
+use Rattle.machine.specs.declared.registers.Machine.{Machine}
+use Rattle.blockcheck.specs.declared.Verdict.{Verdict}
+use Rattle.blockcheck.specs.Blocks.{valueOf, Astray, Judged, bad-length, bad-marks, cut-at, unknown-at, astray-at, accepted}
+use Rattle.run.specs.declared.Lent.{Lent}
+use Rattle.run.specs.Steps.{stepOf, Moved}
+use Rattle.run.specs.Runs.{Ended, onMoved, runFrom, refusal, opened, taken, refused, runOf}
+
+-- where both ways take no more steps, so does a step
+moved-within : (moved : Moved) (most : ℕ) (go : Machine → List ℕ → Ended) (end : ℕ → ℕ → Ended)
+    → ((m : Machine) (d : List ℕ) → go m d .steps ≤ most) → ((n a : ℕ) → end n a .steps ≤ most) → onMoved moved go end .steps ≤ most
+unfolding onMoved
+moved-within (Moved.next m d) most go end h k = h m d
+moved-within (Moved.stop n a) most go end h k = k n a
+
+-- a run of steps takes no more than its budget
+steps-within : (code : List ℕ) (b : ℕ) (m : Machine) (d : List ℕ) (k : ℕ) → runFrom code b m d k .steps ≤ k + b
+unfolding runFrom
+steps-within code zero m d k = omega arith
+steps-within code (suc b) m d k =
+    moved-within (stepOf code m d) (k + suc b) _ _ (λ m′ d′. omega (arith, steps-within code b m′ d′ (suc k))) (λ n a. omega arith)
+
+-- of the four refusals the last leaves the budget allowed
+allowed : (a b w : Bool) (budget : ℕ) → _≡_ {A = ℕ} (cond a 10 (cond b 11 (cond w 12 (cond (ltb 1_000_000 budget) 13 0)))) 0 → budget ≤ 1_000_000
+allowed true b w budget h = omega arith
+allowed false true w budget h = omega arith
+allowed false false true budget h = omega arith
+allowed false false false budget h = by (ltb 1_000_000 budget) refl h
+  where
+    by : (t : Bool) → ltb 1_000_000 budget ≡ t → _≡_ {A = ℕ} (cond t 13 0) 0 → budget ≤ 1_000_000
+    by true e z = omega arith
+    by false e z = ltb-false 1_000_000 budget e
+
+-- a budget that is not refused
+budget-within : (code-length data-length word budget : ℕ) → refusal code-length data-length word budget ≡ 0 → budget ≤ 1_000_000
+unfolding refusal
+budget-within code-length data-length word budget h =
+    allowed (eqb code-length 0 || ltb 65_536 code-length) (ltb 65_536 data-length) (not (passes word)) budget h
+
+-- a refused run takes no steps
+outcome-fits : (b : Bool) (e : Ended) (l : Lent) (d : List ℕ) (n : ℕ) → (b ≡ true → e .steps < 2 ^ 32)
+    → cond b (taken e) (refused l d n) .ran .steps < 2 ^ 32
+unfolding taken refused
+outcome-fits true e l d n h = h refl
+outcome-fits false e l d n h = omega arith
+
+-- the steps of a run fit a word
+pub steps-fit : (code : List ℕ) (l : Lent) (d : List ℕ) (budget : ℕ) → runOf code l d budget .ran .steps < 2 ^ 32
+unfolding runOf
+steps-fit code l d budget =
+    outcome-fits (eqb (refusal (length code) (length d) (l .word) budget) 0) (runFrom code budget (opened l) d 0) l d _
+    (λ t. omega (
+      arith,
+      steps-within code budget (opened l) d 0,
+      budget-within (length code) (length d) (l .word) budget (eqb-true _ _ t),
+    ))
+
+-- a cut has no more pieces than bytes
+pieces-within : {pieces : List (List ℕ)} {code : List ℕ} → Cut pieces code → length pieces ≤ length code
+pieces-within done = omega arith
+pieces-within (next instruction later) = simp length-append (omega (arith, instruction-some instruction, pieces-within later))
+
+-- what goes astray stands inside the code
+astray-within : (starts : List ℕ) (i k : ℕ) {pieces : List (List ℕ)} {code : List ℕ} (cut : Cut pieces code) → Astray starts i cut k → k ≤ i + length code
+unfolding Astray
+astray-within starts i k done a = absurd a
+astray-within starts i k (next instruction later) (inl (wrong, here)) = omega arith
+astray-within starts i k (next {bytes} instruction later) (inr (lawful, after)) =
+    let h = astray-within starts (i + length bytes) k later after in
+    simp length-append (omega arith)
+
+-- the count or the offset of a check fits a word
+pub value-fits : {code marks after : List ℕ} {verdict : Verdict} → Judged code marks verdict after → valueOf verdict < 2 ^ 32
+value-fits (bad-length wrong) = omega arith
+value-fits (bad-marks sized wrong) = omega arith
+value-fits (cut-at sized long reached some prefix) = omega (arith, sized .most, simp length-append at (ap length (reached .joined)))
+value-fits (unknown-at sized long reached begins prefix) = omega (arith, sized .most, simp length-append at (ap length (reached .joined)))
+value-fits (astray-at sized long {pieces} cut {i} astray) = omega (arith, sized .most, astray-within _ 0 i cut astray)
+value-fits (accepted sized long cut good) = omega (arith, sized .most, pieces-within cut)

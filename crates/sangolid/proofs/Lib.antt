@@ -1,0 +1,4 @@
+-- The laws of `sangolid`. Assumes nothing.
+pub mod Bounds
+pub mod States
+pub mod Outcomes

@@ -1,0 +1,48 @@
+-- What the contracts permit is determined, and a refused run leaves the machine's words as they are. Assumes nothing.
+use mathlib.Core.Path.{_≡_, refl, sym, ap, _∙_}
+use mathlib.Core.List.{List, [], _∷_, _++_}
+use Prim.Native.Nat.{ℕ, zero, suc, _+_, _≤_}
+use native.Mathlib.Omega.{arith}
+use lib.ListN.{length, getD, take, drop}
+use lib.Seq.{drop-cons}
+use borrow.Author.Tests.{eq-eqb, ne-eqb}
+use Rattle.blockcheck.specs.declared.Verdict.{Verdict}
+use Rattle.blockcheck.specs.Blocks.{numberOf, valueOf}
+use Rattle.blockcheck.proofs.Verdicts.{judged-unique}
+use Rattle.run.specs.Runs.{refusal, refused, runOf}
+use Rattle.sangolid.specs.Interface.{lentOf, stateOf, Call, called, callOf, Calls, Checks, unfit, judged}
+
+-- any two permitted outcomes of a call of a run coincide
+pub calls-unique : {call : Call} {m n : ℕ} {s t a b : List ℕ} → Calls call m s a → Calls call n t b → (m ≡ n) × (s ≡ t) × (a ≡ b)
+calls-unique p q = (p .is ∙ sym (q .is), p .state-left ∙ sym (q .state-left), p .area-left ∙ sym (q .area-left))
+
+-- any two permitted outcomes of a check coincide
+pub checks-unique : {code marks answer : List ℕ} {m n : ℕ} {a b x y : List ℕ} → Checks code marks answer m a x → Checks code marks answer n b y
+    → (m ≡ n) × (a ≡ b) × (x ≡ y)
+checks-unique (unfit p) (unfit q) = (refl, refl, refl)
+checks-unique (unfit p) (judged q k) = absurd (p q)
+checks-unique (judged p j) (unfit q) = absurd (q p)
+checks-unique (judged p j) (judged q k) =
+    let (verdict, marks) = judged-unique j k in
+    (ap numberOf verdict, marks, ap (λ (v : Verdict). valueOf v ∷ []) verdict)
+
+-- so many elements from a place on, one by one
+abbrev listed : ℕ → ℕ → List ℕ → List ℕ
+listed zero k l = []
+listed (suc n) k l = getD l k 0 ∷ listed n (suc k) l
+
+-- they are that part of the list
+part-listed : (n k : ℕ) (l : List ℕ) → k + n ≤ length l → listed n k l ≡ take n (drop k l)
+part-listed zero k l h = refl
+part-listed (suc n) k l h =
+    rw (drop-cons l k 0 (omega arith)) (ap (λ (r : List ℕ). getD l k 0 ∷ r) (part-listed n (suc k) l (omega arith)))
+
+-- 10 to 13 keep the ten words of the machine: 0 steps, address 0, and the data as handed in
+pub refused-keeps : (state code d : List ℕ) (budget : ℕ) → length state ≡ 12
+    → (refusal (length code) (length d) (getD state 9 0) budget ≡ 0 → ⊥)
+    → callOf state code d budget
+    ≡ record { number = refusal (length code) (length d) (getD state 9 0) budget; state = take 10 state ++ (0 ∷ 0 ∷ []); area = d }
+unfolding callOf called runOf refused lentOf stateOf
+refused-keeps state code d budget long some =
+    rw (eq-eqb _ _ long, ne-eqb _ _ some)
+    (ap (λ (words : List ℕ). record { number = refusal (length code) (length d) (getD state 9 0) budget; state = words ++ (0 ∷ 0 ∷ []); area = d }) (part-listed 10 0 state (omega arith)))

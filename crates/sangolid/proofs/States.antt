@@ -1,0 +1,68 @@
+-- States and answers written whole, and what a call comes to. Assumes nothing.
+use mathlib.Core.Path.{_≡_, refl, ap, _∙_}
+use mathlib.Core.List.{List, [], _∷_, _++_, append-nil}
+use Prim.Native.Nat.{ℕ, suc, _+_, _^_, _<_}
+use native.Mathlib.Omega.{arith}
+use lib.ListN.{length, drop, getD, set}
+use lib.Seq.{sets, sets-eq, drop-length}
+use borrow.Author.Tests.{eq-eqb, ne-eqb}
+use Rattle.blockcheck.specs.declared.Verdict.{Verdict}
+use Rattle.blockcheck.specs.Blocks.{numberOf, valueOf, Judged}
+use Rattle.run.specs.declared.Lent.{Lent}
+use Rattle.run.specs.declared.Ran.{Ran}
+use Rattle.run.specs.Runs.{Runs, runOf}
+use Rattle.sangolid.specs.Interface.{misfit, lentOf, stateOf, called, callOf, Calls, Checks, judged}
+use Rattle.sangolid.proofs.Bounds.{steps-fit}
+
+-- an area as long as what is written over it holds nothing else
+sets-whole : (vs l : List ℕ) → length l ≡ length vs → sets l 0 vs ≡ vs
+sets-whole vs l e =
+    let long : 0 + length vs ≡ length l = omega arith in
+    sets-eq vs l 0 (omega arith) ∙ ap (λ (k : ℕ). vs ++ drop k l) long ∙ ap (λ (r : List ℕ). vs ++ r) (drop-length l) ∙ append-nil vs
+
+-- four words, one after the other
+pub four-sets : (l : List ℕ) (i a b c d : ℕ) → set (set (set (set l i a) (i + 1) b) (i + 2) c) (i + 3) d ≡ sets l i (a ∷ b ∷ c ∷ d ∷ [])
+four-sets l i a b c d =
+    let one : i + 1 ≡ suc i = omega arith in
+    let two : i + 2 ≡ suc (suc i) = omega arith in
+    let three : i + 3 ≡ suc (suc (suc i)) = omega arith in
+    rw (one, two, three) refl
+
+-- twelve words, four at a time, are a whole state
+pub handed : (state : List ℕ) (r : Ran) → length state ≡ 12
+    → sets
+    (sets
+    (sets state 0 (getD (r .machine .regs) 0 0 ∷ getD (r .machine .regs) 1 0 ∷ getD (r .machine .regs) 2 0 ∷ getD (r .machine .regs) 3 0 ∷ []))
+    4
+    (getD (r .machine .regs) 4 0 ∷ getD (r .machine .regs) 5 0 ∷ getD (r .machine .regs) 6 0 ∷ getD (r .machine .regs) 7 0 ∷ []))
+    8
+    (r .machine .eip ∷ r .machine .word ∷ r .steps ∷ r .address ∷ [])
+    ≡ stateOf r
+unfolding stateOf
+handed state r e = sets-whole (stateOf r) state e
+
+module _ (state code d : List ℕ) (budget : ℕ) where
+  -- a state of another length: nothing is changed
+  pub calls-misfit : (length state ≡ 12 → ⊥) → Calls (callOf state code d budget) 90 state d
+  unfolding callOf misfit
+  calls-misfit wrong = rw (ne-eqb _ _ wrong) (record { is = refl; state-left = refl; area-left = refl })
+
+  -- the run's number, with the state written whole
+  pub calls-run : length state ≡ 12 → {l : Lent} {r : Ran} {later after : List ℕ} → l ≡ lentOf state → Runs (runOf code l d budget) r after
+      → later ≡ stateOf r
+      → Calls (callOf state code d budget) (r .number) later after
+  unfolding callOf called
+  calls-run long lending runs writing =
+      rw (eq-eqb _ _ long, ← lending) (record { is = ap (λ (r : Ran). r .number) (runs .is); state-left = writing ∙ ap stateOf (runs .is); area-left = runs .left })
+
+-- the steps that a run hands back fit a word
+pub ran-fits : (code : List ℕ) (l : Lent) (d : List ℕ) (budget : ℕ) {r : Ran} {after : List ℕ} → Runs (runOf code l d budget) r after
+    → r .steps < 2 ^ 32
+ran-fits code l d budget runs = rw (runs .is) (steps-fit code l d budget)
+
+-- the answer is written whole
+pub checks-judged : {code marks answer after : List ℕ} {verdict : Verdict} {n value : ℕ} → length answer ≡ 1 → Judged code marks verdict after
+    → n ≡ numberOf verdict
+    → value ≡ valueOf verdict
+    → Checks code marks answer n after (set answer 0 value)
+checks-judged {answer} {value} long judging number worth = rw (sets-whole (value ∷ []) answer long, number, worth) (judged long judging)

@@ -1,0 +1,70 @@
+-- The C interface: what a call of a run or a block check returns, and what it leaves in the areas lent to it. Assumes nothing.
+use mathlib.Core.Path.{_≡_}
+use mathlib.Core.Bool.{cond}
+use mathlib.Core.List.{List, [], _∷_}
+use Prim.Native.Nat.{ℕ}
+use lib.Dec.{eqb}
+use lib.ListN.{length, getD}
+use Rattle.run.specs.declared.Lent.{Lent}
+use Rattle.run.specs.declared.Ran.{Ran}
+use Rattle.run.specs.Runs.{Outcome, runOf}
+use Rattle.blockcheck.specs.declared.Verdict.{Verdict}
+use Rattle.blockcheck.specs.Blocks.{numberOf, valueOf, Judged}
+
+-- the number for a state or an answer area of another length
+unfoldable pub misfit : ℕ
+misfit = 90
+
+-- the machine in a state: EAX ECX EDX EBX ESP EBP ESI EDI, EIP, flags word
+unfoldable pub lentOf : List ℕ → Lent
+lentOf state =
+    record {
+      regs = getD state 0 0 ∷ getD state 1 0 ∷ getD state 2 0 ∷ getD state 3 0 ∷ getD state 4 0 ∷ getD state 5 0 ∷ getD state 6 0 ∷ getD state 7 0 ∷ [];
+      eip = getD state 8 0;
+      word = getD state 9 0;
+    }
+
+-- the state after a run: the machine in the same places, then the steps and the address
+unfoldable pub stateOf : Ran → List ℕ
+stateOf r =
+    getD (r .machine .regs) 0 0
+    ∷ getD (r .machine .regs) 1 0
+    ∷ getD (r .machine .regs) 2 0
+    ∷ getD (r .machine .regs) 3 0
+    ∷ getD (r .machine .regs) 4 0
+    ∷ getD (r .machine .regs) 5 0
+    ∷ getD (r .machine .regs) 6 0
+    ∷ getD (r .machine .regs) 7 0
+    ∷ r .machine .eip
+    ∷ r .machine .word
+    ∷ r .steps
+    ∷ r .address
+    ∷ []
+
+-- what a call of a run comes to
+pub record Call : Type 0 where
+  pub number : ℕ
+  pub state : List ℕ
+  pub area : List ℕ
+
+-- the run was called
+unfoldable pub called : Outcome → Call
+called o = record { number = o .ran .number; state = stateOf (o .ran); area = o .area }
+
+-- a call with a state of 12 words runs the block; any other changes nothing
+unfoldable pub callOf : List ℕ → List ℕ → List ℕ → ℕ → Call
+callOf state code d budget =
+    cond (eqb (length state) 12) (called (runOf code (lentOf state) d budget))
+    (record { number = misfit; state = state; area = d })
+
+-- the number returned, the state and the data after are what the call comes to
+pub record Calls (call : Call) (number : ℕ) (state area : List ℕ) : Type 0 where
+  pub is : number ≡ call .number
+  pub state-left : state ≡ call .state
+  pub area-left : area ≡ call .area
+
+-- the number that a check returns, the marks and the answer after: with an answer area of one word the block is judged; any other changes nothing
+pub data Checks (code marks answer : List ℕ) : ℕ → List ℕ → List ℕ → Type 0 where
+  unfit : (length answer ≡ 1 → ⊥) → Checks code marks answer misfit marks answer
+  judged : length answer ≡ 1 → {verdict : Verdict} {after : List ℕ} → Judged code marks verdict after
+      → Checks code marks answer (numberOf verdict) after (valueOf verdict ∷ [])

@@ -1,0 +1,2 @@
+-- The definitions of `sangolid`. Assumes nothing.
+pub mod Interface

@@ -1,0 +1,76 @@
+/* Sangolid: runs a calculation block of 32-bit x86 code, and checks one before it is run. */
+#ifndef SANGOLID_H
+#define SANGOLID_H
+
+#include <stddef.h>
+#include <stdint.h>
+
+#ifdef __cplusplus
+extern "C" {
+#endif
+
+/*
+ * Runs the block: takes steps until one stops or the budget is used up.
+ *
+ * state      12 words, read and written: EAX ECX EDX EBX ESP EBP ESI EDI, EIP, the flags word (CF bit 0, PF 2, AF 4,
+ *            ZF 6, SF 7, DF 10, OF 11; bit 1 set), then two that are only written: the steps done, and the address.
+ * state_len  how many words the state has: 12.
+ * code       the block's bytes, which lie at 00010000h upward. They are only read.
+ * code_len   how many they are: 1 to 65,536.
+ * area       the data's bytes, which lie at 00100000h upward. All operands and the stack are here.
+ * area_len   how many they are: 0 to 65,536.
+ * budget     the most steps to take: 0 to 1,000,000.
+ *
+ * Returns why the run ended, and puts the address that goes with it into the state's last word:
+ *    0  the budget is used up; address: EIP. A further call with this state goes on from here.
+ *    1  EIP is home, FFFF0000h: the block has ended; address: EIP.
+ *    2  EIP is outside the code; address: EIP.
+ *    3  the code ends inside the instruction at EIP; address: EIP.
+ *    4  there is no such instruction as at EIP; address: EIP.
+ *    5  a read outside the data; address: where it was to read.
+ *    6  a write outside the data; address: where it was to write.
+ *    7  a divisor of 0, or a quotient that doesn't fit; address: EIP.
+ *   10  the code has no byte, or more than 65,536.
+ *   11  the data has more than 65,536 bytes.
+ *   12  the flags word has bit 1 clear, or a bit set that is no flag.
+ *   13  the budget is over 1,000,000.
+ *   90  the state doesn't have 12 words.
+ * With 1 to 7 all steps before the last stand, and the one that stopped has changed nothing. With 10 to 13 no step was
+ * taken: the first ten words and the data stay as they are, steps and address are 0. With 90 nothing is changed.
+ */
+uint32_t sangolid_run(uint32_t *state, size_t state_len, const uint8_t *code, size_t code_len, uint8_t *area,
+                      size_t area_len, uint64_t budget);
+
+/*
+ * Checks the block: whether the code is instructions from its first byte to its last, and every jump, call and loop with
+ * a displacement leads to the start of one.
+ *
+ * code        the block's bytes. They are only read.
+ * code_len    how many they are: 1 to 65,536.
+ * marks       a byte for each byte of the code, only written: 1 where an instruction starts, 0 elsewhere.
+ * marks_len   how many they are: as many as code_len.
+ * answer      1 word, only written: how many instructions the block has if 0 is returned, else an offset into the code.
+ * answer_len  how many words the answer has: 1.
+ *
+ * Returns what was found:
+ *    0  accepted; answer: the count of instructions.
+ *   10  the code has no byte, or more than 65,536; answer: 0. The marks stay as they are.
+ *   14  the marks are not as many as the code's bytes; answer: 0. The marks stay as they are.
+ *   21  the code ends inside an instruction; answer: where that begins. All marks are 0.
+ *   22  there is no such instruction; answer: where. All marks are 0.
+ *   23  a jump, call or loop leads to no start of an instruction; answer: where the first such begins. All marks are 0.
+ *   90  the answer doesn't have 1 word. Nothing is changed.
+ */
+uint32_t sangolid_check(const uint8_t *code, size_t code_len, uint8_t *marks, size_t marks_len, uint32_t *answer,
+                        size_t answer_len);
+
+/*
+ * For both: a null pointer is fine where its length is 0. The lent areas must not overlap. Nothing is kept after the
+ * call, and nothing but these areas is read or written.
+ */
+
+#ifdef __cplusplus
+}
+#endif
+
+#endif
