@@ -1,13 +1,13 @@
 -- A test that antt computes at every number below a bound, carried to each of them.
 -- Assumes nothing.
-use mathlib.Core.Path.{_≡_, refl, _∙_, subst, sym}
+use mathlib.Core.Path.{_≡_, refl, ap, _∙_, subst, sym}
 use mathlib.Core.Bool.{Bool, true, false}
-use mathlib.Core.List.{List}
+use mathlib.Core.List.{List, [], _∷_, map}
 use Prim.Native.Nat.{ℕ, zero, suc, _+_, _≤_, _<_, zero-le}
 use native.Mathlib.Nat.{add-zero, add-suc, suc-add, zero-add, le-of-suc-le-suc, not-suc-le-zero}
 use native.Mathlib.Omega.{arith}
 use lib.Dec.{T}
-use lib.ListN.{length, getD, List·getD-eq-default}
+use lib.ListN.{length, getD, List·getD-eq-default, List·getD-map}
 use Rattle.grammar.specs.Choice.{both, either}
 use Rattle.grammar.specs.Decoding.{some}
 
@@ -91,3 +91,20 @@ some-number test i (suc n) e = go (test i) refl e (λ h. some-number test (suc i
         → (k : ℕ) × (i ≤ k) × (k < i + suc n) × (test k ≡ true)
     go true t e later = (i, omega arith, omega arith, t)
     go false t e later = let (k, above, below, passes) = later e in (k, omega arith, omega arith, passes)
+
+-- what f gives at the n numbers from i on
+abbrev pub values : {A : Type 0} → (ℕ → A) → ℕ → ℕ → List A
+values f i zero = []
+values f i (suc n) = f i ∷ values f (suc i) n
+
+-- and what stands at each of them
+values-at : {A : Type 0} (f : ℕ → A) (i n k : ℕ) (d : A) → k < n → getD (values f i n) k d ≡ f (i + k)
+values-at f i zero k d h = absurd (not-suc-le-zero h)
+values-at f i (suc n) zero d h = ap f (sym (add-zero i))
+values-at f i (suc n) (suc k) d h =
+    values-at f (suc i) n k d (le-of-suc-le-suc h) ∙ ap f (suc-add i k ∙ sym (add-suc i k))
+
+-- a table whose entries, read, are what f gives at one number after the other has at each place what f gives there
+pub carried : {A : Type 0} (read f : ℕ → A) (table : List ℕ) (n : ℕ) → map read table ≡ values f 0 n → (k : ℕ) → k < n → read (getD table k 0) ≡ f k
+carried {A} read f table n e k h =
+    sym (List·getD-map read table k 0) ∙ ap (λ (l : List A). getD l k (read 0)) e ∙ values-at f 0 n k (read 0) h ∙ ap f (zero-add k)

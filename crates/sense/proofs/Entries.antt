@@ -1,27 +1,14 @@
 -- The table's rule: each entry, in words, is what the lists say of its opcode, and they say nothing past the table. Assumes nothing.
-use mathlib.Core.Path.{_≡_, refl, ap, sym, _∙_}
+use mathlib.Core.Path.{_≡_, refl}
 use mathlib.Core.List.{List, [], _∷_, map}
-use Prim.Native.Nat.{ℕ, zero, suc, _+_, _<_, _≤_}
-use native.Mathlib.Nat.{add-zero, zero-add, add-suc, suc-add, le-of-suc-le-suc, not-suc-le-zero}
-use lib.ListN.{getD, List·getD-map}
+use Prim.Native.Nat.{ℕ, _<_, _≤_}
+use lib.ListN.{getD}
 use Rattle.grammar.specs.Choice.{pick}
 use Rattle.grammar.specs.Opcodes.{listed}
+use Rattle.grammar.proofs.Below.{values, carried}
 use Rattle.grammar.proofs.Entries.{ends, listed-past}
 use Rattle.sense.specs.Senses.{senses, senseOf}
 use Rattle.sense.specs.Table.{senseAt}
-use Rattle.sense.specs.declared.Sense.{Sense}
-
--- what f gives at the n numbers from i on
-abbrev values : {A : Type 0} → (ℕ → A) → ℕ → ℕ → List A
-values f i zero = []
-values f i (suc n) = f i ∷ values f (suc i) n
-
--- and what stands at each of them
-values-at : {A : Type 0} (f : ℕ → A) (i n k : ℕ) (d : A) → k < n → getD (values f i n) k d ≡ f (i + k)
-values-at f i zero k d h = absurd (not-suc-le-zero h)
-values-at f i (suc n) zero d h = ap f (sym (add-zero i))
-values-at f i (suc n) (suc k) d h =
-    values-at f (suc i) n k d (le-of-suc-le-suc h) ∙ ap f (suc-add i k ∙ sym (add-suc i k))
 
 -- the numbers of the table
 abbrev pub table : List ℕ
@@ -66,10 +53,7 @@ all-right = refl
 
 -- so each entry is
 pub table-rule : (k : ℕ) → k < 512 → senseAt (getD table k 0) ≡ senseOf k
-table-rule k h =
-    sym (List·getD-map senseAt table k 0) ∙ ap (λ (l : List Sense). getD l k (senseAt 0)) all-right
-    ∙ values-at senseOf 0 512 k (senseAt 0) h
-    ∙ ap senseOf (zero-add k)
+table-rule k h = carried senseAt senseOf table 512 all-right k h
 
 -- no line passes the table
 pub past-table : (k : ℕ) → 512 ≤ k → senseOf k ≡ senseAt 0x0A0000
