@@ -1,0 +1,261 @@
+//! Comparison with another program behind Sangolid's C interface.
+
+use crate::cases::{Case, CheckCase, Generator, RunCase, Size};
+use crate::check::{check, Verdict};
+use crate::coverage::Coverage;
+use crate::machine::{Machine, CODE_BASE};
+use crate::run::{run, run_observed, Outcome};
+use crate::text::{describe, hex, machine_text};
+
+/// Words of the state area: eight registers, EIP, flags, steps, address.
+pub const STATE_WORDS: usize = 12;
+/// Words of a check's answer area.
+pub const ANSWER_WORDS: usize = 1;
+/// Number for a state or answer area of another length.
+pub const WRONG_AREA: u32 = 90;
+/// Most steps looked through for the first one that differs.
+const STEPS_SEARCHED: u64 = 5000;
+
+/// A program with Sangolid's C interface.
+pub trait Other {
+    /// `sangolid_run`.
+    fn run(&self, state: &mut [u32], code: &[u8], area: &mut [u8], budget: u64) -> u32;
+    /// `sangolid_check`.
+    fn check(&self, code: &[u8], marks: &mut [u8], answer: &mut [u32]) -> u32;
+}
+
+/// How two outcomes differ.
+#[derive(Clone, Copy, PartialEq, Eq, Debug)]
+pub enum Difference {
+    /// In something that 003 and document 01 both define.
+    Defined,
+    /// Only in flags that 003 leaves undefined and document 01 keeps.
+    Policy,
+}
+
+/// A run's whole result.
+#[derive(Clone, PartialEq, Eq, Debug)]
+struct RunResult {
+    outcome: Outcome,
+    data: Vec<u8>,
+}
+
+/// The partner's result.
+fn partner_run(case: &RunCase, coverage: Option<&mut Coverage>) -> RunResult {
+    let mut data = case.data.clone();
+    let outcome = match coverage {
+        None => run(case.machine, &case.code, &mut data, case.budget),
+        Some(coverage) => {
+            let outcome = run_observed(case.machine, &case.code, &mut data, case.budget, |seen| coverage.saw(&seen));
+            coverage.ran(outcome.number);
+            outcome
+        }
+    };
+    RunResult { outcome, data }
+}
+
+/// The state area for a machine; steps and address begin with a filler that must be replaced.
+fn state_words(machine: &Machine) -> [u32; STATE_WORDS] {
+    let mut state = [0xA5A5_A5A5; STATE_WORDS];
+    state[..8].copy_from_slice(&machine.regs);
+    state[8] = machine.eip;
+    state[9] = machine.flags;
+    state
+}
+
+/// The other program's result.
+fn other_run(case: &RunCase, other: &impl Other) -> RunResult {
+    let mut state = state_words(&case.machine);
+    let mut data = case.data.clone();
+    let number = other.run(&mut state, &case.code, &mut data, case.budget);
+    let mut regs = [0; 8];
+    regs.copy_from_slice(&state[..8]);
+    let machine = Machine { regs, eip: state[8], flags: state[9] };
+    let outcome = Outcome { machine, steps: u64::from(state[10]), number, address: state[11], undefined: 0 };
+    RunResult { outcome, data }
+}
+
+/// How the other program's result differs from the partner's.
+fn difference(partner: &RunResult, other: &RunResult) -> Option<Difference> {
+    let masked = |result: &RunResult| {
+        let mut result = result.clone();
+        result.outcome.machine.flags &= !partner.outcome.undefined;
+        result.outcome.undefined = 0;
+        result
+    };
+    if masked(partner) != masked(other) {
+        Some(Difference::Defined)
+    } else if partner.outcome.machine.flags != other.outcome.machine.flags {
+        Some(Difference::Policy)
+    } else {
+        None
+    }
+}
+
+/// One result as text.
+fn result_text(result: &RunResult) -> String {
+    let Outcome { machine, steps, number, address, undefined } = result.outcome;
+    format!(
+        "number {number} steps {steps} address {address:08X} undefined {undefined:03X}\n      {}\n      data {}",
+        machine_text(&machine),
+        hex(&result.data)
+    )
+}
+
+/// The inputs and both results, with the first step that differs.
+fn run_report(case: &RunCase, kind: Difference, other: &impl Other) -> String {
+    let ours = partner_run(case, None);
+    let most = case.budget.min(ours.outcome.steps + 1).min(STEPS_SEARCHED);
+    let first = (0..=most).find(|&budget| {
+        let shorter = RunCase { budget, ..case.clone() };
+        difference(&partner_run(&shorter, None), &other_run(&shorter, other)).is_some()
+    });
+    let step = match first {
+        None => "no shorter budget differs".to_string(),
+        Some(budget) => {
+            let before = partner_run(&RunCase { budget: budget.saturating_sub(1), ..case.clone() }, None);
+            let eip = before.outcome.machine.eip;
+            let rest = case.code.get(eip.wrapping_sub(CODE_BASE) as usize..).unwrap_or(&[]);
+            format!("first at budget {budget}, EIP {eip:08X}: {}  {}", hex(&rest[..rest.len().min(11)]), describe(rest))
+        }
+    };
+    format!(
+        "{kind:?} disagreement in a run, {step}\n  code  {}\n  data  {}\n  budget {:X}\n  in    {}\n  ours  {}\n  other {}",
+        hex(&case.code),
+        hex(&case.data),
+        case.budget,
+        machine_text(&case.machine),
+        result_text(&ours),
+        result_text(&other_run(case, other))
+    )
+}
+
+/// Disagreements found so far.
+pub struct Comparison<'a, O: Other> {
+    other: &'a O,
+    pub coverage: Coverage,
+    pub defined: u64,
+    pub policy: u64,
+    /// The first disagreements in full.
+    pub reports: Vec<String>,
+    limit: usize,
+}
+
+impl<'a, O: Other> Comparison<'a, O> {
+    /// Nothing compared yet; so many disagreements are kept in full.
+    pub fn new<'b>(other: &'a O, form_names: impl Iterator<Item = &'b str>, limit: usize) -> Self {
+        Comparison { other, coverage: Coverage::new(form_names), defined: 0, policy: 0, reports: Vec::new(), limit }
+    }
+
+    /// Counts a disagreement and keeps its report.
+    fn disagree(&mut self, kind: Difference, report: impl FnOnce() -> String) {
+        match kind {
+            Difference::Defined => self.defined += 1,
+            Difference::Policy => self.policy += 1,
+        }
+        if self.reports.len() < self.limit {
+            self.reports.push(report());
+        }
+    }
+
+    /// Compares one run and gives back the partner's result.
+    fn run(&mut self, case: &RunCase) -> RunResult {
+        let ours = partner_run(case, Some(&mut self.coverage));
+        let theirs = other_run(case, self.other);
+        if let Some(kind) = difference(&ours, &theirs) {
+            let other = self.other;
+            self.disagree(kind, || run_report(case, kind, other));
+        }
+        ours
+    }
+
+    /// Compares one block check.
+    pub fn check(&mut self, case: &CheckCase) {
+        let mut our_marks = case.marks.clone();
+        let ours = check(&case.code, &mut our_marks);
+        self.coverage.checked(ours.number);
+        let mut their_marks = case.marks.clone();
+        let mut answer = [0xA5A5_A5A5; ANSWER_WORDS];
+        let number = self.other.check(&case.code, &mut their_marks, &mut answer);
+        let theirs = Verdict { number, answer: answer[0] };
+        if ours != theirs || our_marks != their_marks {
+            self.disagree(Difference::Defined, || {
+                format!(
+                    "disagreement in a check\n  code  {}\n  marks {}\n  ours  {ours:?} marks {}\n  other {theirs:?} marks {}",
+                    hex(&case.code),
+                    hex(&case.marks),
+                    hex(&our_marks),
+                    hex(&their_marks)
+                )
+            });
+        }
+    }
+
+    /// Compares one case.
+    pub fn case(&mut self, case: &Case) {
+        match case {
+            Case::Run(case) => {
+                self.run(case);
+            }
+            Case::Resume(case, more) => {
+                let first = self.run(case);
+                let rest = RunCase {
+                    machine: first.outcome.machine,
+                    code: case.code.clone(),
+                    data: first.data,
+                    budget: *more,
+                };
+                self.run(&rest);
+                self.run(&RunCase { budget: case.budget + more, ..case.clone() });
+            }
+            Case::Check(case) => self.check(case),
+            Case::StateLength(case, length) => {
+                let given: Vec<u32> = state_words(&case.machine).into_iter().cycle().take(*length).collect();
+                let (mut state, mut data) = (given.clone(), case.data.clone());
+                let number = self.other.run(&mut state, &case.code, &mut data, case.budget);
+                if number != WRONG_AREA || state != given || data != case.data {
+                    self.disagree(Difference::Defined, || {
+                        format!("state area of {length} words: number {number}, given {given:X?}, back {state:X?}")
+                    });
+                }
+            }
+            Case::AnswerLength(case, length) => {
+                let given = vec![0xA5A5_A5A5; *length];
+                let (mut answer, mut marks) = (given.clone(), case.marks.clone());
+                let number = self.other.check(&case.code, &mut marks, &mut answer);
+                if number != WRONG_AREA || answer != given || marks != case.marks {
+                    self.disagree(Difference::Defined, || {
+                        format!("answer area of {length} words: number {number}, back {answer:X?}")
+                    });
+                }
+            }
+        }
+    }
+}
+
+/// Compares so many random cases.
+pub fn compare<O: Other>(other: &O, seed: u64, count: u64, limit: usize) -> Comparison<'_, O> {
+    let mut generator = Generator::new(seed, Size::Large);
+    let names: Vec<String> = generator.form_names().map(str::to_string).collect();
+    let mut comparison = Comparison::new(other, names.iter().map(String::as_str), limit);
+    for _ in 0..count {
+        let case = generator.next_case();
+        comparison.case(&case);
+    }
+    comparison
+}
+
+/// Compares the block check on every code of 1 to 3 bytes, alone and with zero bytes behind.
+pub fn sweep<O: Other>(other: &O, limit: usize) -> Comparison<'_, O> {
+    const ZEROS: usize = 10;
+    let mut comparison = Comparison::new(other, std::iter::empty(), limit);
+    for length in 1..=3usize {
+        for value in 0..1u32 << (8 * length) {
+            let code = value.to_be_bytes()[4 - length..].to_vec();
+            comparison.check(&CheckCase { marks: vec![7; length], code: code.clone() });
+            let longer = [code, vec![0; ZEROS]].concat();
+            comparison.check(&CheckCase { marks: vec![7; longer.len()], code: longer });
+        }
+    }
+    comparison
+}

@@ -1,0 +1,110 @@
+//! Cases with expected results, one a line.
+
+use std::io::{self, Write};
+
+use crate::cases::{Case, CheckCase, Generator, RunCase, Size};
+use crate::check::check;
+use crate::coverage::Coverage;
+use crate::machine::Machine;
+use crate::run::run_observed;
+use crate::text::hex;
+
+/// The header: names of the columns.
+pub const HEADER: &str =
+    "kind\teax\tecx\tedx\tebx\tesp\tebp\tesi\tedi\teip\tflags\tbudget\tcode_len\tcode\tarea_len\tarea\
+\tnumber\tsteps\taddress\teax_out\tecx_out\tedx_out\tebx_out\tesp_out\tebp_out\tesi_out\tedi_out\teip_out\tflags_out\
+\tundefined\tarea_out";
+
+/// Bytes as hex without the zero bytes at their end.
+fn sparse(bytes: &[u8]) -> String {
+    let end = bytes.iter().rposition(|&byte| byte != 0).map_or(0, |last| last + 1);
+    hex(&bytes[..end])
+}
+
+/// The ten words of a machine, tab-parted.
+fn machine_columns(machine: &Machine) -> String {
+    let words: Vec<String> =
+        machine.regs.iter().chain([&machine.eip, &machine.flags]).map(|word| format!("{word:X}")).collect();
+    words.join("\t")
+}
+
+/// Ten columns that a check doesn't use.
+const NO_MACHINE: &str = "-\t-\t-\t-\t-\t-\t-\t-\t-\t-";
+
+/// Writes the lines of a run and gives back the case that goes on from its end.
+fn write_run(out: &mut impl Write, case: &RunCase, coverage: &mut Coverage) -> io::Result<RunCase> {
+    let mut data = case.data.clone();
+    let outcome = run_observed(case.machine, &case.code, &mut data, case.budget, |seen| coverage.saw(&seen));
+    coverage.ran(outcome.number);
+    writeln!(
+        out,
+        "run\t{}\t{:X}\t{:X}\t{}\t{:X}\t{}\t{:X}\t{:X}\t{:X}\t{}\t{:X}\t{}",
+        machine_columns(&case.machine),
+        case.budget,
+        case.code.len(),
+        sparse(&case.code),
+        case.data.len(),
+        sparse(&case.data),
+        outcome.number,
+        outcome.steps,
+        outcome.address,
+        machine_columns(&outcome.machine),
+        outcome.undefined,
+        sparse(&data)
+    )?;
+    Ok(RunCase { machine: outcome.machine, data, ..case.clone() })
+}
+
+/// Writes the line of a check; its count or offset stands in the address column.
+fn write_check(out: &mut impl Write, case: &CheckCase, coverage: &mut Coverage) -> io::Result<()> {
+    let mut marks = case.marks.clone();
+    let verdict = check(&case.code, &mut marks);
+    coverage.checked(verdict.number);
+    writeln!(
+        out,
+        "check\t{NO_MACHINE}\t-\t{:X}\t{}\t{:X}\t{}\t{:X}\t-\t{:X}\t{NO_MACHINE}\t-\t{}",
+        case.code.len(),
+        sparse(&case.code),
+        case.marks.len(),
+        sparse(&case.marks),
+        verdict.number,
+        verdict.answer,
+        sparse(&marks)
+    )
+}
+
+/// Writes the header and so many lines, first one finished step of each form, and gives back what they cover.
+pub fn write_vectors(out: &mut impl Write, seed: u64, count: u64) -> io::Result<Coverage> {
+    let mut generator = Generator::new(seed, Size::Small);
+    let names: Vec<String> = generator.form_names().map(str::to_string).collect();
+    let mut coverage = Coverage::new(names.iter().map(String::as_str));
+    writeln!(out, "{HEADER}")?;
+    let mut lines = 0;
+    for form in (0..names.len()).take(count as usize) {
+        write_run(out, &generator.finishing(form), &mut coverage)?;
+        lines += 1;
+    }
+    while lines < count {
+        match generator.next_case() {
+            Case::Run(case) => {
+                write_run(out, &case, &mut coverage)?;
+                lines += 1;
+            }
+            Case::Resume(case, more) => {
+                let rest = write_run(out, &case, &mut coverage)?;
+                lines += 1;
+                if lines < count {
+                    write_run(out, &RunCase { budget: more, ..rest }, &mut coverage)?;
+                    lines += 1;
+                }
+            }
+            Case::Check(case) => {
+                write_check(out, &case, &mut coverage)?;
+                lines += 1;
+            }
+            // The C areas' lengths are no part of a run or check.
+            Case::StateLength(..) | Case::AnswerLength(..) => {}
+        }
+    }
+    Ok(coverage)
+}

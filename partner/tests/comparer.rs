@@ -1,0 +1,81 @@
+//! The comparer finds what differs and nothing else.
+
+use partner::check::check;
+use partner::compare::{compare, Other, ANSWER_WORDS, STATE_WORDS, WRONG_AREA};
+use partner::machine::{Machine, AF};
+use partner::run::run;
+
+/// The partner itself behind the C interface, with a fault of choice.
+struct Mirror {
+    fault: Fault,
+}
+
+/// What the mirror does wrong.
+#[derive(PartialEq)]
+enum Fault {
+    None,
+    /// Sets an undefined AF.
+    UndefinedFlag,
+    /// Reports one step too many for budgets used up.
+    Steps,
+    /// Takes wrong area lengths.
+    AreaLength,
+    /// Leaves a mark at the first byte of refused code.
+    Marks,
+}
+
+impl Other for Mirror {
+    fn run(&self, state: &mut [u32], code: &[u8], area: &mut [u8], budget: u64) -> u32 {
+        if state.len() != STATE_WORDS {
+            return if self.fault == Fault::AreaLength { 0 } else { WRONG_AREA };
+        }
+        let mut regs = [0; 8];
+        regs.copy_from_slice(&state[..8]);
+        let outcome = run(Machine { regs, eip: state[8], flags: state[9] }, code, area, budget);
+        state[..8].copy_from_slice(&outcome.machine.regs);
+        state[8] = outcome.machine.eip;
+        state[9] = outcome.machine.flags;
+        if self.fault == Fault::UndefinedFlag && outcome.undefined & AF != 0 {
+            state[9] |= AF;
+        }
+        state[10] = outcome.steps as u32 + u32::from(self.fault == Fault::Steps && outcome.number == 0);
+        state[11] = outcome.address;
+        outcome.number
+    }
+
+    fn check(&self, code: &[u8], marks: &mut [u8], answer: &mut [u32]) -> u32 {
+        if answer.len() != ANSWER_WORDS {
+            return WRONG_AREA;
+        }
+        let verdict = check(code, marks);
+        answer[0] = verdict.answer;
+        if self.fault == Fault::Marks && verdict.number > 20 {
+            marks[0] = 1;
+        }
+        verdict.number
+    }
+}
+
+/// Defined and policy disagreements beside a mirror with the fault.
+fn disagreements(fault: Fault) -> (u64, u64) {
+    let mirror = Mirror { fault };
+    let comparison = compare(&mirror, 3, 20_000, 2);
+    assert!(comparison.reports.len() <= 2);
+    (comparison.defined, comparison.policy)
+}
+
+#[test]
+fn agreement_is_found() {
+    let mirror = Mirror { fault: Fault::None };
+    let comparison = compare(&mirror, 3, 60_000, 2);
+    assert_eq!((comparison.defined, comparison.policy), (0, 0));
+    assert_eq!(comparison.coverage.holes(), Vec::<String>::new());
+}
+
+#[test]
+fn every_fault_is_found() {
+    assert!(matches!(disagreements(Fault::UndefinedFlag), (0, 1..)));
+    assert!(matches!(disagreements(Fault::Steps), (1.., 0)));
+    assert!(matches!(disagreements(Fault::AreaLength), (1.., 0)));
+    assert!(matches!(disagreements(Fault::Marks), (1.., 0)));
+}
