@@ -1,4 +1,4 @@
--- Case 14 of document 01: what the block check answers for four small blocks. Assumes nothing.
+-- Case 14 of document 01 holds of the block check's rules. Assumes nothing.
 use mathlib.Core.Path.{_≡_, refl, ap, sym, _∙_, subst}
 use mathlib.Core.Logic.{inl, ⊎-elim}
 use mathlib.Core.Bool.{false}
@@ -19,39 +19,12 @@ use Rattle.grammar.specs.declared.decode.Decoded.{Decoded}
 use Rattle.grammar.specs.declared.decode.Found.{Found}
 use Rattle.grammar.specs.declared.relative.Relative.{Relative}
 use Rattle.grammar.proofs.Answered.{decode-answers, found-standing}
-use Rattle.blockcheck.specs.Blocks.{numberOf, valueOf, startsFrom, codeBase, targetOf, Lands, Arrives, arrives, Lawful, Good, Astray, marked, Reached, Judged, cut-at, astray-at, accepted}
+use Rattle.blockcheck.specs.Blocks.{startsFrom, codeBase, targetOf, Lands, Arrives, arrives, Lawful, Good, Astray, marked, Reached, Judged, cut-at, astray-at, accepted}
+use Rattle.blockcheck.specs.Cases.{All, case-14}
 use Rattle.blockcheck.specs.declared.Verdict.{Verdict}
 use Rattle.blockcheck.proofs.Cuts.{same-length}
 use Rattle.blockcheck.proofs.Divisions.{prefix-of}
 use Rattle.blockcheck.proofs.Seeking.{landed}
-
--- a block, the paper's number and value for it, and the marks left
-pub record Case : Type 0 where
-  pub code : List ℕ
-  pub number : ℕ
-  pub value : ℕ
-  pub after : List ℕ
-
--- whatever marks of the code's length are lent, the answer is judged so
-pub record Holds (c : Case) (marks : List ℕ) : Type 0 where
-  pub verdict : Verdict
-  pub judged : Judged (c .code) marks verdict (c .after)
-  pub number : numberOf verdict ≡ c .number
-  pub value : valueOf verdict ≡ c .value
-
--- every case of a list
-unfoldable pub All : List Case → Type 0
-All [] = Unit
-All (c ∷ cases) = ((marks : List ℕ) → length marks ≡ length (c .code) → Holds c marks) × All cases
-
--- EB FE accepted, 1; EB 00 and EB FF 90: 23 at 0; EB FF C0: 21 at 2
-unfoldable pub case-14 : List Case
-case-14 =
-    record { code = 0xEB ∷ 0xFE ∷ []; number = 0; value = 1; after = 1 ∷ 0 ∷ [] }
-    ∷ record { code = 0xEB ∷ 0x00 ∷ []; number = 23; value = 0; after = 0 ∷ 0 ∷ [] }
-    ∷ record { code = 0xEB ∷ 0xFF ∷ 0x90 ∷ []; number = 23; value = 0; after = 0 ∷ 0 ∷ 0 ∷ [] }
-    ∷ record { code = 0xEB ∷ 0xFF ∷ 0xC0 ∷ []; number = 21; value = 2; after = 0 ∷ 0 ∷ 0 ∷ [] }
-    ∷ []
 
 -- an instruction of one opcode in numbers: so many bytes, the last of them its immediate where there are two
 plain : ℕ → ℕ → ℕ → Decoded

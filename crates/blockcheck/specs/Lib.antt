@@ -2,3 +2,4 @@
 pub mod Blocks
 pub mod Passes
 pub mod Starts
+pub mod Cases

@@ -33,7 +33,8 @@ use Rattle.effect.specs.Branches as Branches
 use Rattle.effect.specs.Strings as Strings
 use Rattle.effect.specs.All as Effects
 use Rattle.blockcheck.specs.Blocks.{codeBase}
-use Rattle.blockcheck.proofs.Cases as Blocks
+use Rattle.blockcheck.specs.Cases as Blocks
+use Rattle.blockcheck.proofs.Cases.{case-14-holds}
 use Rattle.run.specs.Steps as Steps
 use Rattle.run.specs.Runs as Runs
 use Rattle.cases.specs.Lines.{Gives, Case, bytes, block, Holds, All}
@@ -99,4 +100,4 @@ unfolding table
 all-hold =
     both (cases-1-to-12 ++ map bytes Bytes.case13) (map block Blocks.case-14)
     (both cases-1-to-12 (map bytes Bytes.case13) runs-hold (bytes-hold Bytes.case13 case13-holds))
-    (blocks-hold Blocks.case-14 Blocks.case-14-holds)
+    (blocks-hold Blocks.case-14 case-14-holds)

@@ -7,7 +7,7 @@ use lib.ListN.{length}
 use Rattle.flags.specs.Word.{passes}
 use Rattle.grammar.specs.Cases as Bytes
 use Rattle.blockcheck.specs.Blocks.{codeBase}
-use Rattle.blockcheck.proofs.Cases as Blocks
+use Rattle.blockcheck.specs.Cases as Blocks
 use Rattle.run.specs.declared.Lent.{Lent}
 use Rattle.run.specs.declared.Ran.{Ran}
 use Rattle.run.specs.Runs.{runOf}

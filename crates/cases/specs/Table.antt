@@ -5,7 +5,7 @@ use Prim.Native.Nat.{ℕ, _+_}
 use lib.ListN.{replicate}
 use Rattle.grammar.specs.Cases.{case13}
 use Rattle.blockcheck.specs.Blocks.{codeBase}
-use Rattle.blockcheck.proofs.Cases.{case-14}
+use Rattle.blockcheck.specs.Cases.{case-14}
 use Rattle.run.specs.declared.Lent.{Lent}
 use Rattle.run.specs.Runs.{runOf}
 use Rattle.cases.specs.Lines.{ends, stops, step, fault, Case, run, keeps, bytes, block}
