@@ -10,11 +10,11 @@ pub enum Outcome {
 
 // The next machine and the write, where there is one.
 pub struct Effect {
-    pub outcome: Outcome,
     pub machine: Machine,
-    pub size: Size,
     pub address: u32,
     pub value: u32,
+    pub outcome: Outcome,
+    pub size: Size,
 }
 
 // What an operation reads, in this order.

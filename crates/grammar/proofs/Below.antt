@@ -2,12 +2,12 @@
 -- Assumes nothing.
 use mathlib.Core.Path.{_≡_, refl, ap, _∙_, subst, sym}
 use mathlib.Core.Bool.{Bool, true, false}
-use mathlib.Core.List.{List, [], _∷_, map}
+use mathlib.Core.List.{List, [], _∷_}
 use Prim.Native.Nat.{ℕ, zero, suc, _+_, _≤_, _<_, zero-le}
 use native.Mathlib.Nat.{add-zero, add-suc, suc-add, zero-add, le-of-suc-le-suc, not-suc-le-zero}
 use native.Mathlib.Omega.{arith}
 use lib.Dec.{T}
-use lib.ListN.{length, getD, List·getD-eq-default, List·getD-map}
+use lib.ListN.{length, getD, List·getD-eq-default}
 use Rattle.grammar.specs.Choice.{both, either}
 use Rattle.grammar.specs.Decoding.{some}
 
@@ -104,7 +104,7 @@ values-at f i (suc n) zero d h = ap f (sym (add-zero i))
 values-at f i (suc n) (suc k) d h =
     values-at f (suc i) n k d (le-of-suc-le-suc h) ∙ ap f (suc-add i k ∙ sym (add-suc i k))
 
--- a table whose entries, read, are what f gives at one number after the other has at each place what f gives there
-pub carried : {A : Type 0} (read f : ℕ → A) (table : List ℕ) (n : ℕ) → map read table ≡ values f 0 n → (k : ℕ) → k < n → read (getD table k 0) ≡ f k
-carried {A} read f table n e k h =
-    sym (List·getD-map read table k 0) ∙ ap (λ (l : List A). getD l k (read 0)) e ∙ values-at f 0 n k (read 0) h ∙ ap f (zero-add k)
+-- what two functions give, one number after the other, being the same, they give the same at each of them
+pub carried : {A : Type 0} (f g : ℕ → A) (n : ℕ) → values f 0 n ≡ values g 0 n → (k : ℕ) → k < n → f k ≡ g k
+carried {A} f g n e k h =
+    ap f (sym (zero-add k)) ∙ sym (values-at f 0 n k (f k) h) ∙ ap (λ (l : List A). getD l k (f k)) e ∙ values-at g 0 n k (f k) h ∙ ap g (zero-add k)

@@ -1,6 +1,6 @@
 -- What a tree finds at a place of the code, step by step.
 -- Assumes nothing.
-use mathlib.Core.Path.{_≡_, refl, ap, sym, _∙_}
+use mathlib.Core.Path.{_≡_, refl, ap, sym, _∙_, subst}
 use mathlib.Core.Bool.{Bool, true, false}
 use mathlib.Core.List.{List, [], _∷_}
 use Prim.Native.Nat.{ℕ, zero, suc, _+_, _-_, _<_, _≤_}
@@ -16,13 +16,31 @@ use Rattle.grammar.specs.Grammar.{Bytes, end, and, hasSib, sibLength, di
 use Rattle.width.specs.LittleEndian.{littleEndian}
 use Rattle.grammar.specs.Answers.{displaced}
 use Rattle.grammar.specs.Reading.{Tree, none, byte, run, bytesThen}
-use Rattle.grammar.specs.Decoding.{answer, found, tailTree, closed, addressTree, withSib, accepts, opened, operandTree, entryTree, opcodeTree}
+use Rattle.grammar.specs.Decoding.{
+  answer,
+  found,
+  tailTree,
+  closed,
+  addressTree,
+  withSib,
+  accepts,
+  opened,
+  operandTree,
+  entryTree,
+  opcodeTree,
+  firstTree,
+  prefixesOf,
+  Prefixed,
+  Names,
+}
 use Rattle.grammar.specs.declared.rule.Immediate.{Immediate}
 use Rattle.grammar.specs.declared.rule.Repeat.{Repeat}
 use Rattle.grammar.specs.declared.rule.Rule.{Rule}
 use Rattle.grammar.specs.declared.rule.Entry.{Entry}
 use Rattle.grammar.specs.declared.decode.Decoded.{Decoded}
 use Rattle.grammar.specs.declared.decode.Found.{Found}
+use Rattle.grammar.specs.declared.decode.Prefixes.{Prefixes}
+use Rattle.grammar.specs.declared.decode.Named.{Named}
 use Rattle.grammar.proofs.Trees.{run-byte, run-then, then-short}
 
 -- each element is a byte
@@ -133,3 +151,17 @@ module _ (l : List ℕ) where
       → found (opcodeTree n narrow repeat k) l i ≡ found (pick (accepts narrow repeat rule) (operandTree rule (opened n narrow repeat k)) none) l i
   unfolding opcodeTree entryTree
   found-listed n narrow repeat k rule i e = rw e
+
+  -- prefixes, by where they end and what follows them
+  pub prefixed-by : {t : Tree Decoded} {at place : ℕ} {p : Prefixes} (read : ℕ) (narrow : Bool) (repeat : Repeat) → p ≡ prefixesOf read narrow repeat
+      → found t l place ≡ found (byte (firstTree read narrow repeat)) l (at + read) → at + read ≤ length l → Prefixed t l at place p
+  prefixed-by read narrow repeat e same within = rw e (record { is = same; inside = within })
+
+  -- after a byte that leads to them
+  pub prefixed-from : {t u : Tree Decoded} {at place next : ℕ} {p : Prefixes} → found t l place ≡ found u l next → Prefixed u l at next p → Prefixed t l at place p
+  prefixed-from e h = record { is = e ∙ h .is; inside = h .inside }
+
+  -- an opcode that is known to be the one named
+  pub named-as : {t : Tree Decoded} {at place : ℕ} {narrow : Bool} {repeat : Repeat} {r s : Named} → r ≡ s → Names t l at place narrow repeat r
+      → Names t l at place narrow repeat s
+  named-as {t} {at} {place} {narrow} {repeat} e h = subst (λ q. Names t l at place narrow repeat q) e h

@@ -8,8 +8,15 @@ use Rattle.grammar.specs.Grammar.{Bytes, end, and, Parts, Built}
 use Rattle.width.specs.LittleEndian.{littleEndian}
 use Rattle.grammar.specs.Answers.{displaced, numbers}
 use Rattle.grammar.specs.Relative.{relativeBy, relativeIn, relativeOf}
+use Rattle.grammar.specs.Table.{kindIn}
 use Rattle.grammar.specs.declared.rule.Immediate.{Immediate}
+use Rattle.grammar.specs.declared.rule.Entry.{Entry}
 use Rattle.grammar.specs.declared.relative.Relative.{Relative}
+
+-- without a rule, the last word: no displacement either
+pub relative-by-kind : (e : Entry) (n : ℕ) → relativeBy (kindIn e) n ≡ relativeIn e n
+relative-by-kind Entry.Unlisted n = refl
+relative-by-kind (Entry.Listed rule) n = refl
 
 -- the rule of the opcode decides
 by-rule : (p : Parts) (built : Built p) → relativeOf (numbers p) ≡ relativeBy (built .rule .immediate) (littleEndian (p .immediate))

@@ -19,6 +19,8 @@ use Rattle.grammar.specs.declared.rule.Rule.{Rule}
 use Rattle.grammar.specs.declared.rule.Entry.{Entry}
 use Rattle.grammar.specs.declared.decode.Decoded.{Decoded}
 use Rattle.grammar.specs.declared.decode.Found.{Found}
+use Rattle.grammar.specs.declared.decode.Prefixes.{Prefixes}
+use Rattle.grammar.specs.declared.decode.Named.{Named}
 
 -- a count of bytes that a number is read from: 0, 1, 2 or 4
 pub record Count (n : ℕ) : Type 0 where
@@ -171,6 +173,32 @@ answer wrong = Found.Unknown
 -- what a tree finds at a place of the bytes
 unfoldable pub found : Tree Decoded → List ℕ → ℕ → Found
 found t bytes at = answer (run t (drop at bytes))
+
+-- prefixes of so many bytes
+abbrev pub prefixesOf : ℕ → Bool → Repeat → Prefixes
+prefixesOf read narrow repeat = record { read = read; narrow = narrow; repeat = repeat }
+
+-- what a tree finds at a place is what follows the prefixes at `at`, and these end inside the code
+pub record Prefixed (t : Tree Decoded) (code : List ℕ) (at place : ℕ) (p : Prefixes) : Type 0 where
+  pub is : found t code place ≡ found (byte (firstTree (p .read) (p .narrow) (p .repeat))) code (at + p .read)
+  pub inside : at + p .read ≤ length code
+
+-- what is found, by the opcode that stands after the prefixes
+abbrev pub foundBy : Bool → Repeat → List ℕ → ℕ → Named → Found
+foundBy narrow repeat code at (Named.Opcode read number) = found (opcodeTree read narrow repeat number) code (at + read)
+foundBy narrow repeat code at Named.Cut = Found.Cut
+foundBy narrow repeat code at Named.Unknown = Found.Unknown
+
+-- an opcode ends inside the code
+abbrev pub EndsInside : List ℕ → ℕ → Named → Type 0
+EndsInside code at (Named.Opcode read number) = at + read ≤ length code
+EndsInside code at Named.Cut = Unit {0}
+EndsInside code at Named.Unknown = Unit {0}
+
+-- what a tree finds at a place is what follows the opcode named, and this ends inside the code
+pub record Names (t : Tree Decoded) (code : List ℕ) (at place : ℕ) (narrow : Bool) (repeat : Repeat) (r : Named) : Type 0 where
+  pub is : found t code place ≡ foundBy narrow repeat code at r
+  pub inside : EndsInside code at r
 
 -- what stands at a place of the code
 unfoldable pub decodeOf : List ℕ → ℕ → Found

@@ -1,8 +1,8 @@
--- An entry of the table in words: a digit a property.
+-- The table of opcodes, and an entry of it in words: a digit a property.
 -- Assumes nothing.
 use mathlib.Core.List.{List, [], _∷_}
-use Prim.Native.Nat.{ℕ, _/_, _%_}
-use lib.Dec.{eqb}
+use Prim.Native.Nat.{ℕ, _*_, _/_, _%_, _^_}
+use lib.Dec.{eqb, ltb}
 use lib.ListN.{getD}
 use Rattle.grammar.specs.Choice.{pick}
 use Rattle.grammar.specs.declared.rule.ModRM.{ModRM}
@@ -39,9 +39,42 @@ repeatsWords = PrefixRepeat.Refused ∷ PrefixRepeat.F2 ∷ PrefixRepeat.F3 ∷ 
 abbrev pub repeatsAt : ℕ → PrefixRepeat
 repeatsAt digit = getD repeatsWords digit PrefixRepeat.Either
 
+-- what an entry's rule says of the immediate; without a rule, the last word
+abbrev pub kindIn : Entry → Immediate
+kindIn Entry.Unlisted = Immediate.ImmVFor0
+kindIn (Entry.Listed rule) = rule .immediate
+
 -- FFFF: no such opcode
 unfoldable pub entryAt : ℕ → Entry
 entryAt x =
     pick (eqb x 0xFFFF) Entry.Unlisted
     (Entry.Listed
     (record { modrm = modrmAt (x % 16); immediate = immediateAt (x / 16 % 16); size = sizeAt (x / 256 % 16); repeats = repeatsAt (x / 4096) }))
+
+-- the table, four entries to a word, the first in the lowest digits
+abbrev pub fours : List ℕ
+fours =
+    0x0101_0001_0101_0001 ∷ 0xFFFF_FFFF_0140_0010 ∷ 0x0101_0001_0101_0001 ∷ 0xFFFF_FFFF_0140_0010 ∷ 0x0101_0001_0101_0001 ∷ 0xFFFF_FFFF_0140_0010
+    ∷ 0x0101_0001_0101_0001 ∷ 0xFFFF_FFFF_0140_0010 ∷ 0x0101_0001_0101_0001 ∷ 0xFFFF_FFFF_0140_0010 ∷ 0x0101_0001_0101_0001 ∷ 0xFFFF_FFFF_0140_0010
+    ∷ 0x0101_0001_0101_0001 ∷ 0xFFFF_FFFF_0140_0010 ∷ 0x0101_0001_0101_0001 ∷ 0xFFFF_FFFF_0140_0010 ∷ 0x0100_0100_0100_0100 ∷ 0x0100_0100_0100_0100
+    ∷ 0x0100_0100_0100_0100 ∷ 0x0100_0100_0100_0100 ∷ 0x0000_0000_0000_0000 ∷ 0x0000_0000_0000_0000 ∷ 0x0000_0000_0000_0000 ∷ 0x0000_0000_0000_0000
+    ∷ 0xFFFF_FFFF_FFFF_FFFF ∷ 0xFFFF_FFFF_FFFF_FFFF ∷ 0x0111_0010_0141_0030 ∷ 0xFFFF_FFFF_FFFF_FFFF ∷ 0x0060_0060_0060_0060 ∷ 0x0060_0060_0060_0060
+    ∷ 0x0060_0060_0060_0060 ∷ 0x0060_0060_0060_0060 ∷ 0x0111_FFFF_0141_0011 ∷ 0x0101_0001_0101_0001 ∷ 0x0101_0001_0101_0001 ∷ 0xFFFF_FFFF_0002_FFFF
+    ∷ 0x0100_0100_0100_0100 ∷ 0x0100_0100_0100_0100 ∷ 0xFFFF_FFFF_0100_0100 ∷ 0x0000_0000_FFFF_FFFF ∷ 0x0150_0050_0150_0050 ∷ 0x3100_3000_2100_2000
+    ∷ 0x2100_2000_0140_0010 ∷ 0x3100_3000_2100_2000 ∷ 0x0010_0010_0010_0010 ∷ 0x0010_0010_0010_0010 ∷ 0x0140_0140_0140_0140 ∷ 0x0140_0140_0140_0140
+    ∷ 0x0000_0020_0113_0013 ∷ 0x0144_0014_FFFF_FFFF ∷ 0xFFFF_FFFF_0000_FFFF ∷ 0xFFFF_FFFF_FFFF_FFFF ∷ 0x0103_0003_0103_0003 ∷ 0xFFFF_FFFF_FFFF_FFFF
+    ∷ 0xFFFF_FFFF_FFFF_FFFF ∷ 0xFFFF_FFFF_FFFF_FFFF ∷ 0x0060_0060_0060_0060 ∷ 0xFFFF_FFFF_FFFF_FFFF ∷ 0x0060_FFFF_0070_0070 ∷ 0xFFFF_FFFF_FFFF_FFFF
+    ∷ 0xFFFF_FFFF_FFFF_FFFF ∷ 0x0195_0085_0000_FFFF ∷ 0xFFFF_FFFF_0000_0000 ∷ 0x0207_0006_0000_0000 ∷ 0xFFFF_FFFF_FFFF_FFFF ∷ 0xFFFF_FFFF_FFFF_FFFF
+    ∷ 0xFFFF_FFFF_FFFF_FFFF ∷ 0xFFFF_FFFF_FFFF_FFFF ∷ 0xFFFF_FFFF_FFFF_FFFF ∷ 0xFFFF_FFFF_FFFF_FFFF ∷ 0xFFFF_FFFF_FFFF_FFFF ∷ 0xFFFF_FFFF_FFFF_FFFF
+    ∷ 0xFFFF_FFFF_FFFF_FFFF ∷ 0xFFFF_FFFF_FFFF_FFFF ∷ 0xFFFF_FFFF_FFFF_FFFF ∷ 0xFFFF_FFFF_FFFF_FFFF ∷ 0xFFFF_FFFF_FFFF_FFFF ∷ 0xFFFF_FFFF_FFFF_FFFF
+    ∷ 0xFFFF_FFFF_FFFF_FFFF ∷ 0xFFFF_FFFF_FFFF_FFFF ∷ 0xFFFF_FFFF_FFFF_FFFF ∷ 0xFFFF_FFFF_FFFF_FFFF ∷ 0xFFFF_FFFF_FFFF_FFFF ∷ 0xFFFF_FFFF_FFFF_FFFF
+    ∷ 0xFFFF_FFFF_FFFF_FFFF ∷ 0xFFFF_FFFF_FFFF_FFFF ∷ 0xFFFF_FFFF_FFFF_FFFF ∷ 0xFFFF_FFFF_FFFF_FFFF ∷ 0xFFFF_FFFF_FFFF_FFFF ∷ 0xFFFF_FFFF_FFFF_FFFF
+    ∷ 0xFFFF_FFFF_FFFF_FFFF ∷ 0xFFFF_FFFF_FFFF_FFFF ∷ 0xFFFF_FFFF_FFFF_FFFF ∷ 0xFFFF_FFFF_FFFF_FFFF ∷ 0xFFFF_FFFF_FFFF_FFFF ∷ 0xFFFF_FFFF_FFFF_FFFF
+    ∷ 0x0070_0070_0070_0070 ∷ 0x0070_0070_0070_0070 ∷ 0x0070_0070_0070_0070 ∷ 0x0070_0070_0070_0070 ∷ 0x0001_0001_0001_0001 ∷ 0x0001_0001_0001_0001
+    ∷ 0x0001_0001_0001_0001 ∷ 0x0001_0001_0001_0001 ∷ 0xFFFF_FFFF_FFFF_FFFF ∷ 0xFFFF_FFFF_FFFF_FFFF ∷ 0xFFFF_FFFF_FFFF_FFFF ∷ 0x0101_FFFF_FFFF_FFFF
+    ∷ 0xFFFF_FFFF_FFFF_FFFF ∷ 0x0001_0101_FFFF_FFFF ∷ 0xFFFF_FFFF_FFFF_FFFF ∷ 0x0001_0101_FFFF_FFFF ∷ 0xFFFF_FFFF_FFFF_FFFF ∷ 0xFFFF_FFFF_FFFF_FFFF
+    ∷ 0x0000_0000_0000_0000 ∷ 0x0000_0000_0000_0000 ∷ []
+
+-- the digits of an opcode; past the table no opcode is listed
+unfoldable pub digitsOf : ℕ → ℕ
+digitsOf k = pick (ltb k 512) (getD fours (k / 4) 0xFFFF_FFFF_FFFF_FFFF / 2 ^ (16 * (k % 4)) % 65536) 0xFFFF

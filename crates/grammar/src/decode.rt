@@ -18,7 +18,27 @@ ghost use mathlib.Core.Path.{_≡_};
 ghost use Prim.Native.Nat.{_+_, _≤_, _<_};
 ghost use lib.ListN.{length, drop};
 ghost use Rattle.grammar.specs.Reading.{byte};
-ghost use Rattle.grammar.specs.Decoding.{Count, tailTree, addressTree, modrmTree, operandTree, accepts, opcodeTree, escapeTree, firstTree, sizeTree, repeatTree, found, decodeOf, Decodes, ownBytes};
+ghost use Rattle.grammar.specs.Decoding.{
+  Count,
+  tailTree,
+  addressTree,
+  modrmTree,
+  operandTree,
+  accepts,
+  opcodeTree,
+  escapeTree,
+  firstTree,
+  sizeTree,
+  repeatTree,
+  tree,
+  found,
+  prefixesOf,
+  Prefixed,
+  Names,
+  decodeOf,
+  Decodes,
+  ownBytes,
+};
 
 // A whole instruction in numbers. A part that it does not have is 0.
 pub struct Decoded {
@@ -43,6 +63,20 @@ pub enum Found {
     // The bytes to the code's end are a proper prefix of some instruction.
     Cut,
     // No instruction begins so.
+    Unknown,
+}
+
+// What stands before an opcode: so many bytes, 66 among them or not, and which of F2 and F3.
+struct Prefixes {
+    read: usize,
+    narrow: bool,
+    repeat: Repeat,
+}
+
+// The opcode that stands after prefixes, so many bytes being read with it; or the code ends before it, or none takes the prefixes.
+enum Named {
+    Opcode { read: usize, number: usize },
+    Cut,
     Unknown,
 }
 
@@ -162,66 +196,100 @@ fn opcode(code: &[u8], at: usize, read: usize, narrow: bool, repeat: Repeat, num
     operand(code, at, head, rule)
 }
 
-// What follows 0F.
-fn escape(code: &[u8], at: usize, read: usize, narrow: bool, repeat: Repeat) -> Found
-    requires { ⌜ at + read ≤ length (now code) ⌝ }
-    ensures { λ r. ⌜ r ≡ found (escapeTree read narrow repeat) (now (code .entry)) (at + read) ⌝ }
+// Prefixes of so many bytes.
+fn prefixed(read: usize, narrow: bool, repeat: Repeat) -> Prefixes
+    ensures { λ r. ⌜ r ≡ prefixesOf read narrow repeat ⌝ }
 {
-    if !escapes_after(narrow, repeat) {
-        return Found::Unknown;
+    Prefixes {
+        read,
+        narrow,
+        repeat,
     }
-    let i = at + read;
-    if code.len() <= i {
-        return Found::Cut;
-    }
-    opcode(code, at, read + 1, narrow, repeat, 0x100 + code[i] as usize)
 }
 
-// The opcode and what follows it, after prefixes of so many bytes.
-fn after_prefixes(code: &[u8], at: usize, read: usize, narrow: bool, repeat: Repeat) -> Found
+// The opcode after 0F, so many bytes being read.
+fn escaped(code: &[u8], at: usize, read: usize, narrow: bool, repeat: Repeat) -> Named
     requires { ⌜ at + read ≤ length (now code) ⌝ }
-    ensures { λ r. ⌜ r ≡ found (byte (firstTree read narrow repeat)) (now (code .entry)) (at + read) ⌝ }
+    ensures { λ r. ⌜ Names (escapeTree read narrow repeat) (now (code .entry)) at (at + read) narrow repeat r ⌝ }
 {
+    if !escapes_after(narrow, repeat) {
+        return Named::Unknown;
+    }
     let i = at + read;
     if code.len() <= i {
-        return Found::Cut;
+        return Named::Cut;
+    }
+    Named::Opcode {
+        read: read + 1,
+        number: 0x100 + code[i] as usize,
+    }
+}
+
+// The opcode after some prefixes.
+fn opcode_after(code: &[u8], at: usize, p: Prefixes) -> Named
+    requires { ⌜ at + p .read ≤ length (now code) ⌝ }
+    ensures { λ r. ⌜
+        Names (byte (firstTree (p .read) (p .narrow) (p .repeat))) (now (code .entry)) at (at + p .read) (p .narrow) (p .repeat) r
+        ⌝ }
+{
+    let read = p.read;
+    let i = at + read;
+    if code.len() <= i {
+        return Named::Cut;
     }
     let b = code[i];
     if b == 0x0F {
-        return escape(code, at, read + 1, narrow, repeat);
+        let repeat = p.repeat;
+        return escaped(code, at, read + 1, p.narrow, repeat);
     }
-    opcode(code, at, read + 1, narrow, repeat, b as usize)
+    Named::Opcode {
+        read: read + 1,
+        number: b as usize,
+    }
 }
 
-// What follows 66.
-fn after_66(code: &[u8], at: usize) -> Found
+// The prefixes of which 66 is the first.
+fn after_66(code: &[u8], at: usize) -> Prefixes
     requires { ⌜ at < length (now code) ⌝ }
-    ensures { λ r. ⌜ r ≡ found sizeTree (now (code .entry)) (at + 1) ⌝ }
+    ensures { λ r. ⌜ Prefixed sizeTree (now (code .entry)) at (at + 1) r ⌝ }
 {
     let i = at + 1;
     if code.len() <= i {
-        return Found::Cut;
+        return prefixed(1, true, Repeat::Absent);
     }
     match code[i] {
-        0xF2 => after_prefixes(code, at, 2, true, Repeat::F2),
-        0xF3 => after_prefixes(code, at, 2, true, Repeat::F3),
-        _ => after_prefixes(code, at, 1, true, Repeat::Absent),
+        0xF2 => prefixed(2, true, Repeat::F2),
+        0xF3 => prefixed(2, true, Repeat::F3),
+        _ => prefixed(1, true, Repeat::Absent),
     }
 }
 
-// What follows F2 or F3.
-fn after_repeat(code: &[u8], at: usize, repeat: Repeat) -> Found
+// The prefixes of which F2 or F3 is the first.
+fn after_repeat(code: &[u8], at: usize, repeat: Repeat) -> Prefixes
     requires { ⌜ at < length (now code) ⌝ }
-    ensures { λ r. ⌜ r ≡ found (repeatTree repeat) (now (code .entry)) (at + 1) ⌝ }
+    ensures { λ r. ⌜ Prefixed (repeatTree repeat) (now (code .entry)) at (at + 1) r ⌝ }
 {
     let i = at + 1;
     if code.len() <= i {
-        return Found::Cut;
+        return prefixed(1, false, repeat);
     }
     if code[i] == 0x66 {
-        return after_prefixes(code, at, 2, true, repeat);
+        return prefixed(2, true, repeat);
     }
-    after_prefixes(code, at, 1, false, repeat)
+    prefixed(1, false, repeat)
+}
+
+// The prefixes at a place of the code.
+fn prefixes_at(code: &[u8], at: usize) -> Prefixes
+    requires { ⌜ at < length (now code) ⌝ }
+    ensures { λ r. ⌜ Prefixed tree (now (code .entry)) at at r ⌝ }
+{
+    match code[at] {
+        0x66 => after_66(code, at),
+        0xF2 => after_repeat(code, at, Repeat::F2),
+        0xF3 => after_repeat(code, at, Repeat::F3),
+        _ => prefixed(0, false, Repeat::Absent),
+    }
 }
 
 // What stands at a place of the code.
@@ -231,11 +299,12 @@ pub fn decode(code: &[u8], at: usize) -> Found
     if code.len() <= at {
         return Found::Cut;
     }
-    match code[at] {
-        0x66 => after_66(code, at),
-        0xF2 => after_repeat(code, at, Repeat::F2),
-        0xF3 => after_repeat(code, at, Repeat::F3),
-        _ => after_prefixes(code, at, 0, false, Repeat::Absent),
+    let p = prefixes_at(code, at);
+    let repeat = p.repeat;
+    match opcode_after(code, at, p) {
+        Named::Opcode { read, number } => opcode(code, at, read, p.narrow, repeat, number),
+        Named::Cut => Found::Cut,
+        Named::Unknown => Found::Unknown,
     }
 }
 

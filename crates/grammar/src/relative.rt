@@ -1,9 +1,8 @@
 // Jumps, calls and loops: the displacement that their immediate is.
 use crate::bytes::extended;
 use crate::decode::Decoded;
-use crate::rule::Entry;
 use crate::rule::Immediate;
-use crate::table::look_up;
+use crate::table::immediate_kind;
 ghost use mathlib.Core.Path.{_≡_};
 ghost use Rattle.grammar.specs.Relative.{relativeBy, relativeOf};
 
@@ -36,11 +35,5 @@ fn by_kind(kind: Immediate, immediate: u32) -> Relative
 pub fn relative_of(d: Decoded) -> Relative
     ensures { λ r. ⌜ r ≡ relativeOf d ⌝ }
 {
-    match look_up(d.opcode) {
-        Entry::Unlisted => Relative::Absent,
-        Entry::Listed(rule) => {
-            let kind = rule.immediate;
-            by_kind(kind, d.immediate)
-        }
-    }
+    by_kind(immediate_kind(d.opcode), d.immediate)
 }

@@ -25,18 +25,18 @@ use Rattle.plan.specs.Addresses.{effectiveAddress}
 unfoldable pub sizeOf : Bool → Bool → Size
 sizeOf byte narrow = cond byte Byte (cond narrow Word Dword)
 
--- the operand at a place
-unfoldable pub operandOf : Place → Machine → Decoded → Size → Operand
-operandOf Place.Absent m d w = Number 0
-operandOf Place.Rm m d w = cond (eqb (modOf (d .modrm)) 3) (Register (rmOf (d .modrm))) (Memory (effectiveAddress m d))
-operandOf Place.Reg m d w = Register (regOf (d .modrm))
-operandOf Place.Accumulator m d w = Register 0
-operandOf Place.OpcodeRegister m d w = Register (d .opcode % 8)
-operandOf Place.Immediate m d w = Number (d .immediate)
-operandOf Place.SignedImmediate m d w = Number (signExtended Byte w (d .immediate))
-operandOf Place.Offset m d w = Memory (d .immediate)
-operandOf Place.One m d w = Number 1
-operandOf Place.Cl m d w = Register 1
+-- the operand at a place, where the effective address is a
+unfoldable pub operandOf : Place → ℕ → Decoded → Size → Operand
+operandOf Place.Absent a d w = Number 0
+operandOf Place.Rm a d w = cond (eqb (modOf (d .modrm)) 3) (Register (rmOf (d .modrm))) (Memory a)
+operandOf Place.Reg a d w = Register (regOf (d .modrm))
+operandOf Place.Accumulator a d w = Register 0
+operandOf Place.OpcodeRegister a d w = Register (d .opcode % 8)
+operandOf Place.Immediate a d w = Number (d .immediate)
+operandOf Place.SignedImmediate a d w = Number (signExtended Byte w (d .immediate))
+operandOf Place.Offset a d w = Memory (d .immediate)
+operandOf Place.One a d w = Number 1
+operandOf Place.Cl a d w = Register 1
 
 -- the address of the next instruction
 unfoldable pub nextOf : Machine → Decoded → ℕ
@@ -48,9 +48,9 @@ planFor m d s operation w target =
     record {
       operation = operation;
       size = w;
-      destination = operandOf (s .destination) m d w;
-      source = operandOf (s .source) m d w;
-      other = operandOf (s .other) m d w;
+      destination = operandOf (s .destination) (effectiveAddress m d) d w;
+      source = operandOf (s .source) (effectiveAddress m d) d w;
+      other = operandOf (s .other) (effectiveAddress m d) d w;
       repeat = d .repeat;
       next = nextOf m d;
       target = target;

@@ -86,9 +86,9 @@ pub fn size_of(byte: bool, narrow: bool) -> Size
     if narrow { Size::Word } else { Size::Dword }
 }
 
-// The operand at a place.
-pub fn operand_at(place: Place, m: Machine, d: Decoded, w: Size) -> Operand
-    ensures { λ r. ⌜ r ≡ operandOf place m d w ⌝ }
+// The operand at a place, where the effective address is a.
+pub fn operand_at(place: Place, a: u32, d: Decoded, w: Size) -> Operand
+    ensures { λ r. ⌜ r ≡ operandOf place a d w ⌝ }
 {
     match place {
         Place::Absent => Operand::Number(0),
@@ -96,7 +96,7 @@ pub fn operand_at(place: Place, m: Machine, d: Decoded, w: Size) -> Operand
             if d.modrm / 64 == 3 {
                 Operand::Register((d.modrm % 8) as u32)
             } else {
-                Operand::Memory(effective_address(m, d))
+                Operand::Memory(a)
             }
         }
         Place::Reg => Operand::Register((d.modrm / 8 % 8) as u32),
@@ -133,12 +133,13 @@ pub fn plan_for(
     let source = s.source;
     let other = s.other;
     let repeat = d.repeat;
+    let a = effective_address(m, d);
     Plan {
         operation,
         size: w,
-        destination: operand_at(destination, m, d, w),
-        source: operand_at(source, m, d, w),
-        other: operand_at(other, m, d, w),
+        destination: operand_at(destination, a, d, w),
+        source: operand_at(source, a, d, w),
+        other: operand_at(other, a, d, w),
         repeat,
         next: next_of(m, d),
         target,

@@ -15,7 +15,7 @@ returns-2 c = rw (c .before .before .before .enum-told2 .given .1, eq-eqb _ _ (c
 
 returns-3 : tie.Need-returns-3
 unfolding operandOf
-returns-3 c = rw (c .before .before .before .enum-told2 .given .1, ne-eqb _ _ (c .before .if1 .left), c .effective-address .ensures)
+returns-3 c = rw (c .before .before .enum-told2 .given .1, ne-eqb _ _ (c .if1 .left))
 
 returns-4 : tie.Need-returns-4
 unfolding operandOf
@@ -56,7 +56,6 @@ operand-at-spec =
     (λ c. search needs)
     (λ c. search needs)
     (λ c. search needs)
-    (λ c κs. search needs)
     (λ c. search needs)
     (λ c. search needs)
     (λ c. search needs)

@@ -6,12 +6,20 @@ use Rattle.plan.specs.Plans.{planFor}
 
 returns : tie.Need-returns
 unfolding planFor
-returns c = rw (c .next-of .ensures, c .before .operand-at3 .ensures, c .before .before .operand-at2 .ensures, c .before .before .before .operand-at .ensures)
+returns c =
+    rw (
+      c .next-of .ensures,
+      c .before .operand-at3 .ensures,
+      c .before .before .operand-at2 .ensures,
+      c .before .before .before .operand-at .ensures,
+      c .before .before .before .before .effective-address .ensures,
+    )
 
 pub plan-for-spec : {M : Type 1} → statement M
 plan-for-spec =
     tie.close
     (tie.spec
+    (λ c κs. search needs)
     (λ c κs. search needs)
     (λ c κs. search needs)
     (λ c κs. search needs)
