@@ -1,0 +1,28 @@
+-- `vector_text::value` meets its contract: the place stays inside the text. Assumes nothing.
+use Prim.Native.Nat.{_≤_, _-_}
+use lib.ListN.{length}
+use borrow.Author.Needs.{needs}
+use Rattle.vector_text.proofs.value.Statement.{statement}
+use Rattle.vector_text.proofs.value.Tie as tie
+
+abbrev Inv-loop : tie.InvT-loop
+Inv-loop text sum₀ i₀ sum i = i ≤ length text
+
+abbrev μ-loop : tie.MeasureT-loop
+μ-loop text sum₀ i₀ sum i = length text - i
+
+pub value-spec : {M : Type 1} → statement M
+value-spec =
+    tie.close
+    (tie.spec
+    Inv-loop
+    μ-loop
+    (λ c. search needs)
+    (λ c. search needs)
+    (λ c. search needs)
+    (λ c κs. search needs)
+    (λ c. search needs)
+    (λ c. search needs)
+    (λ c. search needs)
+    (λ c. search needs)
+    (λ c. search needs))
