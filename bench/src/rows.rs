@@ -1,0 +1,146 @@
+//! What is timed: blocks with their registers and data.
+
+use partner::cases::RunCase;
+use partner::machine::{write, Machine, Width, ALWAYS, CODE_BASE, DATA_BASE, HOME, MAX_BUDGET, MAX_BYTES};
+
+/// One row of the table.
+pub struct Row {
+    pub name: &'static str,
+    /// The inputs; every row's block ends at home before the budget does.
+    pub case: RunCase,
+    /// Fewest runs in one measurement if each is a fresh one, for which Unicorn opens a new engine.
+    pub fresh_runs: Option<u32>,
+}
+
+/// Bytes of data of a row that needs little.
+const FEW_BYTES: usize = 64;
+/// Hours of the day on which the clocks go back.
+const HOURS: usize = 25;
+/// Most steps that a day may take.
+const DAY_BUDGET: u64 = 1_000;
+/// Words of 2 bytes that fill the data, half of them moved from and half to.
+const MOVED_WORDS: u32 = 16_384;
+
+/// ADD, XOR, DEC, JNZ on registers.
+const REGISTER_LOOP: &[u8] = &[
+    0x01, 0xD8, // 0: ADD EAX, EBX
+    0x31, 0xC2, // 2: XOR EDX, EAX
+    0x49, // 4: DEC ECX
+    0x75, 0xF9, // 5: JNZ 0
+    0xC3, // 7: RET
+];
+
+/// A word added to, one stored and one compared in each round.
+const MEMORY_LOOP: &[u8] = &[
+    0x8B, 0x06, // 0: MOV EAX, [ESI]
+    0x01, 0x46, 0x04, // 2: ADD [ESI+4], EAX
+    0x89, 0x54, 0x8F, 0xFC, // 5: MOV [EDI+ECX*4-4], EDX
+    0x83, 0x3E, 0x00, // 9: CMP dword [ESI], 0
+    0x4B, // 12: DEC EBX
+    0x75, 0xF1, // 13: JNZ 0
+    0xC3, // 15: RET
+];
+
+/// A repeated move; the data has no room for a stack, so the block jumps home.
+const MOVE: &[u8] = &[
+    0xF3, 0x66, 0xA5, // 0: REP MOVSW
+    0xFF, 0xE0, // 3: JMP EAX
+];
+
+/// A routine called in each round.
+const CALL_LOOP: &[u8] = &[
+    0xE8, 0x04, 0x00, 0x00, 0x00, // 0: CALL 9
+    0x49, // 5: DEC ECX
+    0x75, 0xF8, // 6: JNZ 0
+    0xC3, // 8: RET
+    0x40, // 9: INC EAX
+    0xC3, // 10: RET
+];
+
+/// A product divided again in each round.
+const PRODUCT_LOOP: &[u8] = &[
+    0xF7, 0xE3, // 0: MUL EBX
+    0xF7, 0xF6, // 2: DIV ESI
+    0x01, 0xF8, // 4: ADD EAX, EDI
+    0x49, // 6: DEC ECX
+    0x75, 0xF7, // 7: JNZ 0
+    0xC3, // 9: RET
+];
+
+/// The sum of a day's readings.
+const DAY: &[u8] = &[
+    0x31, 0xC0, // 0: XOR EAX, EAX
+    0x03, 0x06, // 2: ADD EAX, [ESI]
+    0x83, 0xC6, 0x04, // 4: ADD ESI, 4
+    0xE2, 0xF9, // 7: LOOP 2
+    0xC3, // 9: RET
+];
+
+/// A machine at the code's start with these of EAX, ECX, EDX, EBX, ESI, EDI.
+fn machine([eax, ecx, edx, ebx, esi, edi]: [u32; 6]) -> Machine {
+    Machine { regs: [eax, ecx, edx, ebx, 0, 0, esi, edi], eip: CODE_BASE, flags: ALWAYS }
+}
+
+/// A case whose data's last word becomes the stack, which holds home.
+fn returning(code: &[u8], mut machine: Machine, mut data: Vec<u8>, budget: u64) -> RunCase {
+    let top = DATA_BASE + data.len() as u32 - 4;
+    machine.regs[4] = top;
+    write(&mut data, top, Width::Dword, HOME).expect("the stack lies in the data");
+    RunCase { machine, code: code.to_vec(), data, budget }
+}
+
+/// A row of long runs.
+fn long(name: &'static str, case: RunCase) -> Row {
+    Row { name, case, fresh_runs: None }
+}
+
+/// The register loop with so many bytes of data.
+fn register_loop(length: usize) -> RunCase {
+    let start = machine([1, 200_000, 2, 0x9E37_79B9, 0, 0]);
+    returning(REGISTER_LOOP, start, vec![0; length], MAX_BUDGET)
+}
+
+/// The memory loop over a few words.
+fn memory_loop() -> RunCase {
+    let start = machine([0, 4, 7, 150_000, DATA_BASE, DATA_BASE + 16]);
+    returning(MEMORY_LOOP, start, (1..=FEW_BYTES as u8).collect(), MAX_BUDGET)
+}
+
+/// The repeated move through all of the data.
+fn repeated_move() -> RunCase {
+    let machine = machine([HOME, MOVED_WORDS, 0, 0, DATA_BASE, DATA_BASE + 2 * MOVED_WORDS]);
+    let data = (0..MAX_BYTES).map(|at| (at % 251) as u8).collect();
+    RunCase { machine, code: MOVE.to_vec(), data, budget: MAX_BUDGET }
+}
+
+/// The loop of calls.
+fn call_loop() -> RunCase {
+    returning(CALL_LOOP, machine([0, 190_000, 0, 0, 0, 0]), vec![0; FEW_BYTES], MAX_BUDGET)
+}
+
+/// The loop of multiplications and divisions; the divisor is the larger one, so that every quotient fits.
+fn product_loop() -> RunCase {
+    let start = machine([123_456_789, 190_000, 0, 1_000_003, 1_000_033, 100_000]);
+    returning(PRODUCT_LOOP, start, vec![0; FEW_BYTES], MAX_BUDGET)
+}
+
+/// The day's readings and their sum.
+fn day() -> RunCase {
+    let readings = (0..HOURS as u32).map(|hour| 1000 + 17 * hour);
+    let stack = 0;
+    let data = readings.chain([stack]).flat_map(u32::to_le_bytes).collect();
+    returning(DAY, machine([0, HOURS as u32, 0, 0, DATA_BASE, 0]), data, DAY_BUDGET)
+}
+
+/// All rows in the table's order.
+pub fn rows() -> Vec<Row> {
+    vec![
+        long("register loop, 64 bytes of data", register_loop(FEW_BYTES)),
+        long("register loop, 64 KiB of data", register_loop(MAX_BYTES)),
+        long("memory loop", memory_loop()),
+        long("REP MOVSW of 16,384 words", repeated_move()),
+        long("call and return loop", call_loop()),
+        long("multiply and divide loop", product_loop()),
+        Row { name: "1,000 fresh runs of a 25-hour day", case: day(), fresh_runs: Some(1_000) },
+    ]
+}
