@@ -67,7 +67,7 @@ unfolding All Holds Gives cases-1-to-12 ones codeBase
     Addresses.scaledIndex Addresses.baseRegister Addresses.addressBase Addresses.effectiveAddress
     Plans.sizeOf Plans.operandOf Plans.nextOf Plans.planFor Plans.planOf
     Words.becomes Words.faults Words.onward Words.value Words.assign Words.addressOf Words.readOr Words.readOf Words.writes
-    Arithmetic.arithmeticReads Arithmetic.settled Arithmetic.binary Arithmetic.single Arithmetic.shift Arithmetic.upper Arithmetic.doubled Arithmetic.quotient Arithmetic.divided Arithmetic.dividedSigned Arithmetic.arithmeticEffect
+    Arithmetic.arithmeticReads Arithmetic.assigns Arithmetic.settled Arithmetic.binary Arithmetic.single Arithmetic.shift Arithmetic.upper Arithmetic.doubled Arithmetic.quotient Arithmetic.divided Arithmetic.dividedSigned Arithmetic.arithmeticEffect
     Moves.moveReads Moves.moveEffect
     Branches.counted
     Strings.passed Strings.round Strings.roundReads Strings.compares Strings.over Strings.repeated Strings.withMachine Strings.idle Strings.stringReads Strings.rounded Strings.stringEffect

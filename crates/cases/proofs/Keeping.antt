@@ -57,7 +57,7 @@ unfolding Keeps Gives
     Operations.shiftAt Operations.operationOf Senses.senses Senses.senseOf
     Plans.sizeOf Plans.operandOf Plans.nextOf Plans.planFor Plans.planOf
     Words.becomes Words.onward Words.value Words.assign Words.readOr Words.readOf
-    Arithmetic.arithmeticReads Arithmetic.shift Arithmetic.arithmeticEffect
+    Arithmetic.arithmeticReads Arithmetic.settled Arithmetic.shift Arithmetic.arithmeticEffect
     Effects.readsBy Effects.effectBy
     codeBase
     Steps.home Steps.inside Steps.committed Steps.finished Steps.performed Steps.planned Steps.executed Steps.stepOf

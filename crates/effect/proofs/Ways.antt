@@ -5,8 +5,6 @@ use Prim.Native.Nat.{ℕ, _%_}
 use lib.ListN.{length, length-set}
 use Rattle.width.specs.declared.Size.{Size}
 use Rattle.flags.specs.declared.Flags.{Flags}
-use Rattle.arith.specs.declared.Binary.{Binary}
-use Rattle.arith.specs.declared.Binary.the-variants.{Add, Or, Adc, Sbb, And, Sub, Xor, Cmp}
 use Rattle.product.specs.declared.Division.{Division}
 use Rattle.product.specs.declared.Division.the-variants.{Parts, Fault}
 use Rattle.machine.specs.declared.registers.Machine.{Machine}
@@ -21,9 +19,10 @@ use Rattle.sense.specs.declared.Operation.{Operation}
 use Rattle.plan.specs.declared.Operand.{Operand}
 use Rattle.plan.specs.declared.Operand.the-variants.{Register, Memory, Number}
 use Rattle.plan.specs.declared.Plan.{Plan}
+use Rattle.effect.specs.declared.arithmetic.Computed.{Computed}
 use Rattle.effect.specs.declared.outcome.Effect.{Effect}
 use Rattle.effect.specs.Words.{becomes, writes, faults, onward, assign, assigned}
-use Rattle.effect.specs.Arithmetic.{settled, binary, test, single, shift, doubled, multiplied, multipliedSigned, multipliedLow, quotient, divided, dividedSigned, arithmeticEffect}
+use Rattle.effect.specs.Arithmetic.{settled, doubled, multiplied, multipliedSigned, quotient, divided, dividedSigned, arithmeticEffect}
 use Rattle.effect.specs.Moves.{exchanged, moveEffect, flaggingEffect}
 use Rattle.effect.specs.Stacks.{pushed, stackEffect}
 use Rattle.effect.specs.Branches.{branched, looped, branchEffect}
@@ -113,18 +112,6 @@ module _ {m : Machine} {a : ℕ} {after : Machine} (h : At m a after) where
   unfolding pushed
   of-pushed v = of-writes (register-set h _ _) _ _ v
 
-  -- so has one that settles a binary operation's result
-  of-settled : (op : Binary) (o : Operand) (w : Size) (v : ℕ) → At m a ((settled op o after w v) .machine)
-  unfolding settled
-  of-settled Add o w v = of-assign o w v
-  of-settled Or o w v = of-assign o w v
-  of-settled Adc o w v = of-assign o w v
-  of-settled Sbb o w v = of-assign o w v
-  of-settled And o w v = of-assign o w v
-  of-settled Sub o w v = of-assign o w v
-  of-settled Xor o w v = of-assign o w v
-  of-settled Cmp o w v = of-becomes h
-
 -- from the machine before, on to the next instruction
 on : (m : Machine) (p : Plan) → At m (p .next) (onward m p)
 on m p = next-set (here m) p
@@ -156,6 +143,11 @@ either : {m : Machine} {p : Plan} {e f : Effect} (b : Bool) → Course m p false
 either true x y = x
 either false x y = y
 
+-- an operation whose value is assigned or not falls
+settled-course : (c : Computed) (m : Machine) (p : Plan) → Course m p false (settled c m p)
+unfolding settled
+settled-course c m p = either (c .assigned) (falling (of-assign (flags-set (on m p) _) _ _ _)) (falling (of-becomes (flags-set (on m p) _)))
+
 -- a division stays with a fault, and else falls
 quotient-course : (d : Division) (m : Machine) (p : Plan) → Course m p false (quotient d m p)
 unfolding quotient faults
@@ -164,14 +156,14 @@ quotient-course (Parts q r) m p = falling (of-becomes (halves-set (flags-set (on
 
 -- an operation that computes falls, but for a division's fault
 arithmetic-course : (op : Arithmetic) (m : Machine) (p : Plan) (r : ℕ) → Course m p false (arithmeticEffect op m p r)
-unfolding arithmeticEffect binary test single shift multiplied multipliedSigned multipliedLow divided dividedSigned
-arithmetic-course (Arithmetic.Binary op) m p r = falling (of-settled (flags-set (on m p) _) op _ _ _)
-arithmetic-course Arithmetic.Test m p r = falling (of-becomes (flags-set (on m p) _))
-arithmetic-course (Arithmetic.Single op) m p r = falling (of-assign (flags-set (on m p) _) _ _ _)
-arithmetic-course (Arithmetic.Shift op) m p r = falling (of-assign (flags-set (on m p) _) _ _ _)
+unfolding arithmeticEffect multiplied multipliedSigned divided dividedSigned
+arithmetic-course (Arithmetic.Binary op) m p r = settled-course _ m p
+arithmetic-course Arithmetic.Test m p r = settled-course _ m p
+arithmetic-course (Arithmetic.Single op) m p r = settled-course _ m p
+arithmetic-course (Arithmetic.Shift op) m p r = settled-course _ m p
 arithmetic-course Arithmetic.Mul m p r = falling (of-becomes (halves-set (flags-set (on m p) _) _ _ _))
 arithmetic-course Arithmetic.Imul m p r = falling (of-becomes (halves-set (flags-set (on m p) _) _ _ _))
-arithmetic-course Arithmetic.ImulLow m p r = falling (of-assign (flags-set (on m p) _) _ _ _)
+arithmetic-course Arithmetic.ImulLow m p r = settled-course _ m p
 arithmetic-course Arithmetic.Div m p r = quotient-course _ m p
 arithmetic-course Arithmetic.Idiv m p r = quotient-course _ m p
 

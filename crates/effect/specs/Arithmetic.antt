@@ -1,7 +1,9 @@
 -- Operations that compute: what each does, beside 003's page for it. m is the machine before, r what was read. Assumes nothing.
+use mathlib.Core.Bool.{Bool, true, false, cond}
 use Prim.Native.Nat.{ℕ}
 use Rattle.width.specs.declared.Size.{Size}
 use Rattle.width.specs.declared.Size.the-variants.{Byte, Word, Dword}
+use Rattle.flags.specs.declared.Flags.{Flags}
 use Rattle.arith.specs.declared.Binary.{Binary}
 use Rattle.arith.specs.declared.Binary.the-variants.{Add, Or, Adc, Sbb, And, Sub, Xor, Cmp}
 use Rattle.arith.specs.declared.Single.{Single}
@@ -17,8 +19,8 @@ use Rattle.product.specs.Divide.{unsignedDivision, signedDivision, divisionFlag
 use Rattle.machine.specs.declared.registers.Machine.{Machine}
 use Rattle.machine.specs.Registers.{part, withPart, withFlags}
 use Rattle.sense.specs.declared.Arithmetic.{Arithmetic}
-use Rattle.plan.specs.declared.Operand.{Operand}
 use Rattle.plan.specs.declared.Plan.{Plan}
+use Rattle.effect.specs.declared.arithmetic.Computed.{Computed}
 use Rattle.effect.specs.declared.outcome.Effect.{Effect}
 use Rattle.effect.specs.declared.outcome.Reads.{Reads}
 use Rattle.effect.specs.Words.{becomes, faults, onward, value, assign, readOr, readOf}
@@ -27,38 +29,42 @@ use Rattle.effect.specs.Words.{becomes, faults, onward, value, assign, r
 unfoldable pub arithmeticReads : Plan → Reads
 arithmeticReads p = readOr (p .source) (p .size) (readOf (p .destination) (p .size))
 
--- a result of a binary operation is assigned to the destination; CMP assigns nothing
-unfoldable pub settled : Binary → Operand → Machine → Size → ℕ → Effect
-settled Add o m w v = assign o m w v
-settled Or o m w v = assign o m w v
-settled Adc o m w v = assign o m w v
-settled Sbb o m w v = assign o m w v
-settled And o m w v = assign o m w v
-settled Sub o m w v = assign o m w v
-settled Xor o m w v = assign o m w v
-settled Cmp o m w v = becomes m
+-- whether a binary operation assigns its value: CMP does not
+unfoldable pub assigns : Binary → Bool
+assigns Add = true
+assigns Or = true
+assigns Adc = true
+assigns Sbb = true
+assigns And = true
+assigns Sub = true
+assigns Xor = true
+assigns Cmp = false
 
--- 003 "ADD", "OR", "ADC", "SBB", "AND", "SUB", "XOR", "CMP": DEST ← DEST op SRC
-unfoldable pub binary : Binary → Machine → Plan → ℕ → ℕ → Effect
-binary op m p a b =
-    settled op (p .destination) (withFlags (onward m p) (binaryFlags op (p .size) a b (m .flags))) (p .size)
-    (binaryValue op (p .size) a b (m .flags .cf))
+-- 003 "ADD", "OR", "ADC", "SBB", "AND", "SUB", "XOR", "CMP": DEST op SRC
+unfoldable pub binary : Binary → Size → ℕ → ℕ → Flags → Computed
+binary op w a b f = record { flags = binaryFlags op w a b f; value = binaryValue op w a b (f .cf); assigned = assigns op }
 
 -- 003 "TEST": the flags of DEST AND SRC
-unfoldable pub test : Machine → Plan → ℕ → ℕ → Effect
-test m p a b = becomes (withFlags (onward m p) (binaryFlags And (p .size) a b (m .flags)))
+unfoldable pub test : Size → ℕ → ℕ → Flags → Computed
+test w a b f = record { flags = binaryFlags And w a b f; value = 0; assigned = false }
 
--- 003 "INC", "DEC", "NOT", "NEG": DEST ← op DEST
-unfoldable pub single : Single → Machine → Plan → ℕ → Effect
-single op m p a =
-    assign (p .destination) (withFlags (onward m p) (singleFlags op (p .size) a (m .flags))) (p .size)
-    (singleValue op (p .size) a)
+-- 003 "INC", "DEC", "NOT", "NEG": op DEST
+unfoldable pub single : Single → Size → ℕ → Flags → Computed
+single op w a f = record { flags = singleFlags op w a f; value = singleValue op w a; assigned = true }
 
--- 003 "RCL/RCR/ROL/ROR", "SAL/SAR/SHL/SHR": DEST ← DEST moved by the count
-unfoldable pub shift : Shift → Machine → Plan → ℕ → ℕ → Effect
-shift op m p a count =
-    assign (p .destination) (withFlags (onward m p) (shiftFlags op (p .size) a count (m .flags))) (p .size)
-    (shiftValue op (p .size) a count (m .flags .cf))
+-- 003 "RCL/RCR/ROL/ROR", "SAL/SAR/SHL/SHR": DEST moved by the count
+unfoldable pub shift : Shift → Size → ℕ → ℕ → Flags → Computed
+shift op w a count f = record { flags = shiftFlags op w a count f; value = shiftValue op w a count (f .cf); assigned = true }
+
+-- 003 "IMUL", two and three operands: the low half
+unfoldable pub multipliedLow : Size → ℕ → ℕ → Flags → Computed
+multipliedLow w a b f = record { flags = productFlags (signedSpills w a b) f; value = (halves w (signedProduct w a b)) .low; assigned = true }
+
+-- DEST ← the value that was computed, if it is to be assigned, and the flags
+unfoldable pub settled : Computed → Machine → Plan → Effect
+settled c m p =
+    cond (c .assigned) (assign (p .destination) (withFlags (onward m p) (c .flags)) (p .size) (c .value))
+    (becomes (withFlags (onward m p) (c .flags)))
 
 -- the upper half's register: AH beside AL, DX beside AX, EDX beside EAX
 unfoldable pub upper : Size → ℕ
@@ -90,12 +96,6 @@ multipliedSigned m p b =
     ((halves (p .size) (signedProduct (p .size) (part m (p .size) 0) b)) .low)
     ((halves (p .size) (signedProduct (p .size) (part m (p .size) 0) b)) .high))
 
--- 003 "IMUL", two and three operands: DEST ← the low half
-unfoldable pub multipliedLow : Machine → Plan → ℕ → ℕ → Effect
-multipliedLow m p a b =
-    assign (p .destination) (withFlags (onward m p) (productFlags (signedSpills (p .size) a b) (m .flags))) (p .size)
-    ((halves (p .size) (signedProduct (p .size) a b)) .low)
-
 -- quotient to the accumulator, remainder to the upper half's register
 unfoldable pub quotient : Division → Machine → Plan → Effect
 quotient Fault m p = faults m
@@ -113,15 +113,16 @@ dividedSigned m p d =
 -- what the operation does
 unfoldable pub arithmeticEffect : Arithmetic → Machine → Plan → ℕ → Effect
 arithmeticEffect (Arithmetic.Binary op) m p r =
-    binary op m p (value (p .destination) m r (p .size)) (value (p .source) m r (p .size))
+    settled (binary op (p .size) (value (p .destination) m r (p .size)) (value (p .source) m r (p .size)) (m .flags)) m p
 arithmeticEffect Arithmetic.Test m p r =
-    test m p (value (p .destination) m r (p .size)) (value (p .source) m r (p .size))
-arithmeticEffect (Arithmetic.Single op) m p r = single op m p (value (p .destination) m r (p .size))
+    settled (test (p .size) (value (p .destination) m r (p .size)) (value (p .source) m r (p .size)) (m .flags)) m p
+arithmeticEffect (Arithmetic.Single op) m p r =
+    settled (single op (p .size) (value (p .destination) m r (p .size)) (m .flags)) m p
 arithmeticEffect (Arithmetic.Shift op) m p r =
-    shift op m p (value (p .destination) m r (p .size)) (value (p .source) m r Byte)
+    settled (shift op (p .size) (value (p .destination) m r (p .size)) (value (p .source) m r Byte) (m .flags)) m p
 arithmeticEffect Arithmetic.Mul m p r = multiplied m p (value (p .destination) m r (p .size))
 arithmeticEffect Arithmetic.Imul m p r = multipliedSigned m p (value (p .destination) m r (p .size))
 arithmeticEffect Arithmetic.ImulLow m p r =
-    multipliedLow m p (value (p .source) m r (p .size)) (value (p .other) m r (p .size))
+    settled (multipliedLow (p .size) (value (p .source) m r (p .size)) (value (p .other) m r (p .size)) (m .flags)) m p
 arithmeticEffect Arithmetic.Div m p r = divided m p (value (p .destination) m r (p .size))
 arithmeticEffect Arithmetic.Idiv m p r = dividedSigned m p (value (p .destination) m r (p .size))

@@ -10,8 +10,8 @@ use crate::words::read_or;
 use crate::words::value;
 use arith::Binary;
 use arith::Single;
+use flags::Flags;
 use machine::registers::Machine;
-use plan::Operand;
 use plan::Plan;
 use product::Division;
 use sense::Arithmetic;
@@ -30,9 +30,16 @@ pub fn arithmetic_reads(p: Plan) -> Reads
     read_or(s, w, read_of(d, w))
 }
 
-// A result of a binary operation is assigned to the destination; CMP assigns nothing.
-fn settled(op: Binary, o: Operand, m: Machine, w: Size, v: u32) -> Effect
-    ensures { λ r. ⌜ r ≡ Op.settled op o m w v ⌝ }
+// What an operation computes: the flags, and a value that is assigned to DEST or not.
+struct Computed {
+    flags: Flags,
+    value: u32,
+    assigned: bool,
+}
+
+// Whether a binary operation assigns its value: CMP does not.
+fn assigns(op: Binary) -> bool
+    ensures { λ r. ⌜ r ≡ Op.assigns op ⌝ }
 {
     match op {
         Binary::Add
@@ -41,55 +48,79 @@ fn settled(op: Binary, o: Operand, m: Machine, w: Size, v: u32) -> Effect
         | Binary::Sbb
         | Binary::And
         | Binary::Sub
-        | Binary::Xor => assign(o, m, w, v),
-        Binary::Cmp => becomes(m),
+        | Binary::Xor => true,
+        Binary::Cmp => false,
     }
 }
 
-// 003 "ADD", "OR", "ADC", "SBB", "AND", "SUB", "XOR", "CMP": DEST ← DEST op SRC.
-fn binary(op: Binary, m: Machine, p: Plan, a: u32, b: u32) -> Effect
-    ensures { λ r. ⌜ r ≡ Op.binary op m p a b ⌝ }
+// 003 "ADD", "OR", "ADC", "SBB", "AND", "SUB", "XOR", "CMP": DEST op SRC.
+fn binary(op: Binary, w: Size, a: u32, b: u32, f: Flags) -> Computed
+    ensures { λ r. ⌜ r ≡ Op.binary op w a b f ⌝ }
 {
-    let w = p.size;
-    let d = p.destination;
-    let f = m.flags;
-    let g = arith::binary_flags(op, w, a, b, f);
-    let v = arith::binary_value(op, w, a, b, f.cf);
-    settled(op, d, onward(m, p).with_flags(g), w, v)
+    Computed {
+        flags: arith::binary_flags(op, w, a, b, f),
+        value: arith::binary_value(op, w, a, b, f.cf),
+        assigned: assigns(op),
+    }
 }
 
 // 003 "TEST": the flags of DEST AND SRC.
-fn test(m: Machine, p: Plan, a: u32, b: u32) -> Effect
-    ensures { λ r. ⌜ r ≡ Op.test m p a b ⌝ }
+fn test(w: Size, a: u32, b: u32, f: Flags) -> Computed
+    ensures { λ r. ⌜ r ≡ Op.test w a b f ⌝ }
 {
-    let w = p.size;
-    let f = m.flags;
-    let g = arith::binary_flags(Binary::And, w, a, b, f);
-    becomes(onward(m, p).with_flags(g))
+    Computed {
+        flags: arith::binary_flags(Binary::And, w, a, b, f),
+        value: 0,
+        assigned: false,
+    }
 }
 
-// 003 "INC", "DEC", "NOT", "NEG": DEST ← op DEST.
-fn single(op: Single, m: Machine, p: Plan, a: u32) -> Effect
-    ensures { λ r. ⌜ r ≡ Op.single op m p a ⌝ }
+// 003 "INC", "DEC", "NOT", "NEG": op DEST.
+fn single(op: Single, w: Size, a: u32, f: Flags) -> Computed
+    ensures { λ r. ⌜ r ≡ Op.single op w a f ⌝ }
 {
-    let w = p.size;
-    let d = p.destination;
-    let f = m.flags;
-    let g = arith::single_flags(op, w, a, f);
-    let v = arith::single_value(op, w, a);
-    assign(d, onward(m, p).with_flags(g), w, v)
+    Computed {
+        flags: arith::single_flags(op, w, a, f),
+        value: arith::single_value(op, w, a),
+        assigned: true,
+    }
 }
 
-// 003 "RCL/RCR/ROL/ROR", "SAL/SAR/SHL/SHR": DEST ← DEST moved by the count.
-fn shift(op: Shift, m: Machine, p: Plan, a: u32, count: u32) -> Effect
-    ensures { λ r. ⌜ r ≡ Op.shift op m p a count ⌝ }
+// 003 "RCL/RCR/ROL/ROR", "SAL/SAR/SHL/SHR": DEST moved by the count.
+fn shift(op: Shift, w: Size, a: u32, count: u32, f: Flags) -> Computed
+    ensures { λ r. ⌜ r ≡ Op.shift op w a count f ⌝ }
 {
-    let w = p.size;
-    let d = p.destination;
-    let f = m.flags;
-    let g = shift::shift_flags(op, w, a, count, f);
-    let v = shift::shift_value(op, w, a, count, f.cf);
-    assign(d, onward(m, p).with_flags(g), w, v)
+    Computed {
+        flags: shift::shift_flags(op, w, a, count, f),
+        value: shift::shift_value(op, w, a, count, f.cf),
+        assigned: true,
+    }
+}
+
+// 003 "IMUL", two and three operands: the low half.
+fn multiplied_low(w: Size, a: u32, b: u32, f: Flags) -> Computed
+    ensures { λ r. ⌜ r ≡ Op.multipliedLow w a b f ⌝ }
+{
+    let n = product::imul(w, a, b);
+    Computed {
+        flags: product::product_flags(product::imul_spills(w, a, b), f),
+        value: n.low,
+        assigned: true,
+    }
+}
+
+// DEST ← the value that was computed, if it is to be assigned, and the flags.
+fn settled(c: Computed, m: Machine, p: Plan) -> Effect
+    ensures { λ r. ⌜ r ≡ Op.settled c m p ⌝ }
+{
+    let g = c.flags;
+    let after = onward(m, p).with_flags(g);
+    if c.assigned {
+        let d = p.destination;
+        let w = p.size;
+        return assign(d, after, w, c.value);
+    }
+    becomes(after)
 }
 
 // The upper half's register: AH beside AL, DX beside AX, EDX beside EAX.
@@ -133,18 +164,6 @@ fn multiplied_signed(m: Machine, p: Plan, b: u32) -> Effect
     let g = product::product_flags(product::imul_spills(w, a, b), f);
     let n = product::imul(w, a, b);
     becomes(doubled(onward(m, p).with_flags(g), w, n.low, n.high))
-}
-
-// 003 "IMUL", two and three operands: DEST ← the low half.
-fn multiplied_low(m: Machine, p: Plan, a: u32, b: u32) -> Effect
-    ensures { λ r. ⌜ r ≡ Op.multipliedLow m p a b ⌝ }
-{
-    let w = p.size;
-    let d = p.destination;
-    let f = m.flags;
-    let g = product::product_flags(product::imul_spills(w, a, b), f);
-    let n = product::imul(w, a, b);
-    assign(d, onward(m, p).with_flags(g), w, n.low)
 }
 
 // Quotient to the accumulator, remainder to the upper half's register.
@@ -192,18 +211,22 @@ pub fn arithmetic_effect(op: Arithmetic, m: Machine, p: Plan, r: u32) -> Effect
     let w = p.size;
     let d = p.destination;
     let s = p.source;
-    match op {
-        Arithmetic::Binary(o) => binary(o, m, p, value(d, m, r, w), value(s, m, r, w)),
-        Arithmetic::Test => test(m, p, value(d, m, r, w), value(s, m, r, w)),
-        Arithmetic::Single(o) => single(o, m, p, value(d, m, r, w)),
-        Arithmetic::Shift(o) => shift(o, m, p, value(d, m, r, w), value(s, m, r, Size::Byte)),
-        Arithmetic::Mul => multiplied(m, p, value(d, m, r, w)),
-        Arithmetic::Imul => multiplied_signed(m, p, value(d, m, r, w)),
+    let f = m.flags;
+    let a = value(d, m, r, w);
+    let b = value(s, m, r, w);
+    let c = match op {
+        Arithmetic::Binary(o) => binary(o, w, a, b, f),
+        Arithmetic::Test => test(w, a, b, f),
+        Arithmetic::Single(o) => single(o, w, a, f),
+        Arithmetic::Shift(o) => shift(o, w, a, value(s, m, r, Size::Byte), f),
+        Arithmetic::Mul => return multiplied(m, p, a),
+        Arithmetic::Imul => return multiplied_signed(m, p, a),
         Arithmetic::ImulLow => {
             let t = p.other;
-            multiplied_low(m, p, value(s, m, r, w), value(t, m, r, w))
+            multiplied_low(w, b, value(t, m, r, w), f)
         }
-        Arithmetic::Div => divided(m, p, value(d, m, r, w)),
-        Arithmetic::Idiv => divided_signed(m, p, value(d, m, r, w)),
-    }
+        Arithmetic::Div => return divided(m, p, a),
+        Arithmetic::Idiv => return divided_signed(m, p, a),
+    };
+    settled(c, m, p)
 }

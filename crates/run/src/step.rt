@@ -11,7 +11,6 @@ use machine::registers::Machine;
 use plan::Plan;
 use width::Size;
 ghost use mathlib.Core.Path.{_≡_};
-ghost use Rattle.machine.specs.Memory.{loadOf};
 ghost use Rattle.grammar.specs.Decoding.{decodeOf};
 ghost use Rattle.run.specs.Steps.{
   stoppedAt,
@@ -21,9 +20,10 @@ ghost use Rattle.run.specs.Steps.{
   executed,
   planned,
   performed,
-  loaded,
   finished,
   committed,
+  Fetches,
+  FetchesSecond,
 };
 
 // What a step comes to: the next machine, or the same one with a number and an address.
@@ -85,13 +85,49 @@ fn finish(p: Plan, m: Machine, area: &mut [u8], r: u32, s: u32) -> Stepped
     commit(effect_by(op, m, p, r, s), m, area)
 }
 
-// The second read of two, and then the effect.
-fn second(p: Plan, m: Machine, area: &mut [u8], r: u32, w: Size, a: u32) -> Stepped
-    ensures { λ t. ⌜ Steps (loaded (loadOf (now (area .entry)) w a) (λ s. finished p m (now (area .entry)) r s)) m (now (area .entry)) t (now (area .exit)) ⌝ }
+// What was read, 0 where nothing was; or the address that is outside.
+enum Fetched {
+    Values { first: u32, second: u32 },
+    Outside(u32),
+}
+
+// The second read of two, where r is the first.
+fn fetch_second(area: &[u8], r: u32, w: Size, a: u32) -> Fetched
+    ensures { λ f. ⌜ FetchesSecond (now (area .entry)) r w a f ⌝ }
 {
     match machine::memory::load(area, w, a) {
-        Loaded::Value(s) => finish(p, m, area, r, s),
-        Loaded::Outside(b) => stop(m, 5, b),
+        Loaded::Value(s) => Fetched::Values {
+            first: r,
+            second: s,
+        },
+        Loaded::Outside(b) => Fetched::Outside(b),
+    }
+}
+
+// The reads, in their order.
+fn fetch(reads: Reads, area: &[u8]) -> Fetched
+    ensures { λ f. ⌜ Fetches (now (area .entry)) reads f ⌝ }
+{
+    match reads {
+        Reads::Nothing => Fetched::Values {
+            first: 0,
+            second: 0,
+        },
+        Reads::One { size, address } => match machine::memory::load(area, size, address) {
+            Loaded::Value(r) => Fetched::Values {
+                first: r,
+                second: 0,
+            },
+            Loaded::Outside(a) => Fetched::Outside(a),
+        },
+        Reads::Two {
+            size,
+            first,
+            second: other,
+        } => match machine::memory::load(area, size, first) {
+            Loaded::Value(r) => fetch_second(area, r, size, other),
+            Loaded::Outside(a) => Fetched::Outside(a),
+        },
     }
 }
 
@@ -99,20 +135,9 @@ fn second(p: Plan, m: Machine, area: &mut [u8], r: u32, w: Size, a: u32) -> Step
 fn perform(reads: Reads, p: Plan, m: Machine, area: &mut [u8]) -> Stepped
     ensures { λ r. ⌜ Steps (performed reads p m (now (area .entry))) m (now (area .entry)) r (now (area .exit)) ⌝ }
 {
-    match reads {
-        Reads::Nothing => finish(p, m, area, 0, 0),
-        Reads::One { size, address } => match machine::memory::load(area, size, address) {
-            Loaded::Value(r) => finish(p, m, area, r, 0),
-            Loaded::Outside(a) => stop(m, 5, a),
-        },
-        Reads::Two {
-            size,
-            first,
-            second: other,
-        } => match machine::memory::load(area, size, first) {
-            Loaded::Value(r) => second(p, m, area, r, size, other),
-            Loaded::Outside(a) => stop(m, 5, a),
-        },
+    match fetch(reads, area) {
+        Fetched::Values { first, second } => finish(p, m, area, first, second),
+        Fetched::Outside(a) => stop(m, 5, a),
     }
 }
 

@@ -6,15 +6,7 @@ use Rattle.effect.specs.Arithmetic.{binary}
 
 returns : tie.Need-returns
 unfolding binary
-returns c = simp (c .settled .ensures, c .before .with-flags .ensures, c .before .before .onward .ensures, c .before .before .before .binary-value .ensures .is, c .before .before .before .before .binary-flags .ensures)
+returns c = simp (c .assigns .ensures, c .before .binary-value .ensures .is, c .before .before .binary-flags .ensures)
 
 pub binary-spec : {M : Type 1} → statement M
-binary-spec =
-    tie.close
-    (tie.spec
-    (λ c κs. search needs)
-    (λ c κs. search needs)
-    (λ c κs. search needs)
-    (λ c κs. search needs)
-    (λ c κs. search needs)
-    returns)
+binary-spec = tie.close (tie.spec (λ c κs. search needs) (λ c κs. search needs) (λ c κs. search needs) returns)

@@ -6,15 +6,7 @@ use Rattle.effect.specs.Arithmetic.{shift}
 
 returns : tie.Need-returns
 unfolding shift
-returns c = simp (c .assign .ensures, c .before .with-flags .ensures, c .before .before .onward .ensures, c .before .before .before .shift-value .ensures .is, c .before .before .before .before .shift-flags .ensures)
+returns c = simp (c .shift-value .ensures .is, c .before .shift-flags .ensures)
 
 pub shift-spec : {M : Type 1} → statement M
-shift-spec =
-    tie.close
-    (tie.spec
-    (λ c κs. search needs)
-    (λ c κs. search needs)
-    (λ c κs. search needs)
-    (λ c κs. search needs)
-    (λ c κs. search needs)
-    returns)
+shift-spec = tie.close (tie.spec (λ c κs. search needs) (λ c κs. search needs) returns)

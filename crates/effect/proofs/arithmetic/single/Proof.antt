@@ -6,15 +6,7 @@ use Rattle.effect.specs.Arithmetic.{single}
 
 returns : tie.Need-returns
 unfolding single
-returns c = simp (c .assign .ensures, c .before .with-flags .ensures, c .before .before .onward .ensures, c .before .before .before .single-value .ensures .is, c .before .before .before .before .single-flags .ensures)
+returns c = simp (c .single-value .ensures .is, c .before .single-flags .ensures)
 
 pub single-spec : {M : Type 1} → statement M
-single-spec =
-    tie.close
-    (tie.spec
-    (λ c κs. search needs)
-    (λ c κs. search needs)
-    (λ c κs. search needs)
-    (λ c κs. search needs)
-    (λ c κs. search needs)
-    returns)
+single-spec = tie.close (tie.spec (λ c κs. search needs) (λ c κs. search needs) returns)

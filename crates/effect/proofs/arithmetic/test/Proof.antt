@@ -6,9 +6,7 @@ use Rattle.effect.specs.Arithmetic.{test}
 
 returns : tie.Need-returns
 unfolding test
-returns c = simp (c .becomes .ensures, c .before .with-flags .ensures, c .before .before .onward .ensures, c .before .before .before .binary-flags .ensures)
+returns c = simp (c .binary-flags .ensures)
 
 pub test-spec : {M : Type 1} → statement M
-test-spec =
-    tie.close
-    (tie.spec (λ c κs. search needs) (λ c κs. search needs) (λ c κs. search needs) (λ c κs. search needs) returns)
+test-spec = tie.close (tie.spec (λ c κs. search needs) returns)
