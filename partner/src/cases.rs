@@ -2,7 +2,7 @@
 
 use std::collections::BTreeMap;
 
-use crate::decode::{decode, Instruction, Operand, Operation, Target, Text};
+use crate::decode::{decode, Address, Instruction, Operand, Operation, Text, PREFIXES};
 use crate::machine::{
     write, Machine, Width, ALWAYS, CODE_BASE, DATA_BASE, DF, EAX, EBP, ECX, EDI, EDX, ESI, ESP, HOME, KNOWN,
     MAX_BUDGET, MAX_BYTES,
@@ -93,8 +93,6 @@ const LONGEST_TAIL: usize = 11;
 
 /// All instruction forms, found by trying every prefix order, opcode and next byte.
 fn all_forms() -> Vec<Form> {
-    const PREFIXES: [&[u8]; 8] =
-        [&[], &[0x66], &[0xF3], &[0xF2], &[0x66, 0xF3], &[0xF3, 0x66], &[0x66, 0xF2], &[0xF2, 0x66]];
     let mut forms: BTreeMap<String, Vec<Vec<u8>>> = BTreeMap::new();
     let opcodes = (0..=0xFFu8).map(|byte| vec![byte]).chain((0..=0xFFu8).map(|byte| vec![0x0F, byte]));
     for opcode in opcodes {
@@ -325,8 +323,8 @@ impl Generator {
             Operation::Loop(..) => machine.regs[usize::from(ECX)] = self.random.pick(&[0, 1, 2, 0xFFFF_FFFF]),
             _ => {}
         }
-        if let Some(operand) = memory_operand(&instruction) {
-            self.aim_memory(&operand, code, machine, data.len());
+        if let Some(address) = instruction.memory() {
+            self.aim_memory(&address, code, machine, data.len());
         }
         if let Operation::Div(operand) | Operation::Idiv(operand) = instruction.operation {
             if self.random.percent(60) {
@@ -350,17 +348,20 @@ impl Generator {
     }
 
     /// Moves a memory operand to an interesting address.
-    fn aim_memory(&mut self, operand: &Operand, code: &mut [u8], machine: &mut Machine, length: usize) {
-        let Operand::Memory(address) = *operand else { return };
+    fn aim_memory(&mut self, address: &Address, code: &mut [u8], machine: &mut Machine, length: usize) {
         let wanted = self.address(length);
-        let missing = wanted.wrapping_sub(effective_address(machine, &address));
-        let index = address.index.map(|(index, _)| index);
+        let missing = |machine: &Machine| wanted.wrapping_sub(effective_address(machine, address));
         match address.base {
-            Some(base) if Some(base) != index && self.random.percent(90) => {
-                let register = &mut machine.regs[usize::from(base)];
-                *register = register.wrapping_add(missing);
+            Some(base) if self.random.percent(90) => {
+                // A base that is the index too stands in the sum 1 + scale times.
+                let times = address.index.filter(|&(index, _)| index == base).map_or(1, |(_, scale)| 1 + scale);
+                machine.regs[usize::from(base)] = 0;
+                machine.regs[usize::from(base)] = part(missing(machine), times);
             }
-            _ => replace_displacement(code, address.displacement, address.displacement.wrapping_add(missing)),
+            _ => {
+                let old = address.displacement;
+                replace_displacement(code, old, old.wrapping_add(missing(machine)));
+            }
         }
     }
 
@@ -433,7 +434,7 @@ impl Generator {
             _ => self.instruction(),
         };
         let instruction = decode(&bytes).expect("the bytes are an instruction");
-        let Some(Operand::Memory(address)) = memory_operand(&instruction) else { return bytes };
+        let Some(address) = instruction.memory() else { return bytes };
         let absolute = address.base.is_none() && address.index.is_none();
         if absolute && self.random.percent(90) {
             let wanted = DATA_BASE + self.random.below(length.max(5) - 4) as u32;
@@ -670,6 +671,16 @@ impl Generator {
     }
 }
 
+/// The value that taken so many times (2 or odd) gives the whole modulo 2^32; twice, one more than an odd whole.
+pub fn part(whole: u32, times: u32) -> u32 {
+    if times == 2 {
+        return whole.wrapping_add(1) / 2;
+    }
+    // An odd number is its own inverse modulo 8; each round doubles the bits that are right.
+    let inverse = (0..4).fold(times, |inverse, _| inverse.wrapping_mul(2u32.wrapping_sub(times.wrapping_mul(inverse))));
+    whole.wrapping_mul(inverse)
+}
+
 /// Replaces a 4-byte displacement in an instruction's bytes, if they hold one and stay an instruction.
 fn replace_displacement(code: &mut [u8], old: u32, new: u32) {
     let Some(at) = code.windows(4).rposition(|bytes| bytes == old.to_le_bytes()) else { return };
@@ -678,22 +689,4 @@ fn replace_displacement(code: &mut [u8], old: u32, new: u32) {
     if decode(&patched).is_ok_and(|instruction| instruction.length as usize == code.len()) {
         code.copy_from_slice(&patched);
     }
-}
-
-/// The instruction's memory operand that a ModR/M byte or an address gives.
-fn memory_operand(instruction: &Instruction) -> Option<Operand> {
-    let operands = match instruction.operation {
-        Operation::Alu(_, to, from) | Operation::Mov(to, from) => vec![to, from],
-        Operation::Test(left, right) | Operation::Xchg(left, right) => vec![left, right],
-        Operation::Imul(_, left, right) => vec![left, right],
-        Operation::Lea(_, address) => vec![Operand::Memory(address)],
-        Operation::Movzx(_, from, _) | Operation::Movsx(_, from, _) => vec![from],
-        Operation::Inc(one) | Operation::Dec(one) | Operation::Not(one) | Operation::Neg(one) => vec![one],
-        Operation::Mul(one) | Operation::ImulWide(one) | Operation::Div(one) | Operation::Idiv(one) => vec![one],
-        Operation::Shift(_, to, _) | Operation::Setcc(_, to) => vec![to],
-        Operation::Push(from) => vec![from],
-        Operation::Call(Target::Absolute(operand)) | Operation::Jmp(Target::Absolute(operand)) => vec![operand],
-        _ => vec![],
-    };
-    operands.into_iter().find(|operand| matches!(operand, Operand::Memory(_)))
 }

@@ -47,7 +47,7 @@ fn partner_run(case: &RunCase, coverage: Option<&mut Coverage>) -> RunResult {
         None => run(case.machine, &case.code, &mut data, case.budget),
         Some(coverage) => {
             let outcome = run_observed(case.machine, &case.code, &mut data, case.budget, |seen| coverage.saw(&seen));
-            coverage.ran(outcome.number);
+            coverage.ran(&outcome);
             outcome
         }
     };
@@ -205,6 +205,7 @@ impl<'a, O: Other> Comparison<'a, O> {
                     data: first.data,
                     budget: *more,
                 };
+                self.coverage.resume();
                 self.run(&rest);
                 self.run(&RunCase { budget: case.budget + more, ..case.clone() });
             }

@@ -3,8 +3,10 @@
 use std::collections::BTreeMap;
 use std::fmt::{self, Display, Formatter};
 
-use crate::run::Seen;
-use crate::text::form;
+use crate::decode::{Instruction, Operation, PREFIXES};
+use crate::run::{Outcome, Seen};
+use crate::step::Step;
+use crate::text::{form, prefixes};
 
 /// How often a form finished a step and how often it stopped one.
 #[derive(Clone, Copy, Default)]
@@ -13,36 +15,153 @@ struct Count {
     stopped: u64,
 }
 
-/// Counts by instruction form and by number.
+/// Finished steps by the shapes of one group.
+struct Group {
+    title: String,
+    shapes: Vec<(String, u64)>,
+}
+
+impl Group {
+    /// Nothing counted yet.
+    fn new(title: String, shapes: impl Iterator<Item = String>) -> Self {
+        Group { title, shapes: shapes.map(|shape| (shape, 0)).collect() }
+    }
+
+    /// Counts the shape at this place.
+    fn count(&mut self, place: usize) {
+        self.shapes[place].1 += 1;
+    }
+}
+
+impl Display for Group {
+    fn fmt(&self, out: &mut Formatter) -> fmt::Result {
+        let holes: Vec<&str> = self.shapes.iter().filter(|shape| shape.1 == 0).map(|shape| shape.0.as_str()).collect();
+        let all = self.shapes.len();
+        let least = self.shapes.iter().map(|shape| shape.1).min().unwrap_or(0);
+        write!(out, "{} of {all} {}, least {least}", all - holes.len(), self.title)?;
+        if !holes.is_empty() {
+            write!(out, ", holes: {}", holes.join(", "))?;
+        }
+        Ok(())
+    }
+}
+
+/// What the run under way did.
+#[derive(Default)]
+struct Course {
+    /// The run goes on from inside a repeated instruction.
+    resumed: bool,
+    /// The last step left its repeated instruction unfinished.
+    inside: bool,
+    /// Address of the jump that the last step took.
+    jump: Option<u32>,
+    /// A jump was taken to another instruction, which finished.
+    jumped: bool,
+}
+
+impl Course {
+    /// Goes on by a finished step.
+    fn follow(&mut self, seen: &Seen, step: &Step) {
+        let Instruction { operation, length, repeat, .. } = *seen.instruction;
+        let next = step.machine.eip;
+        let jumps = matches!(operation, Operation::Jmp(_) | Operation::Jcc(..) | Operation::Loop(..));
+        self.jumped |= self.jump.is_some_and(|from| from != seen.eip);
+        self.jump = (jumps && next != seen.eip.wrapping_add(length)).then_some(seen.eip);
+        self.inside = repeat.is_some() && next == seen.eip;
+    }
+}
+
+/// Counts by instruction form, number, course and shape.
 pub struct Coverage {
     forms: BTreeMap<String, Count>,
     runs: BTreeMap<u32, u64>,
     checks: BTreeMap<u32, u64>,
+    course: Course,
+    /// The last run ended inside a repeated instruction.
+    inside: bool,
+    resumed: u64,
+    jumped: u64,
+    modrm: Group,
+    sib: [Group; 3],
+    prefixes: Group,
+}
+
+/// The ModR/M byte and what follows, if it gave memory that was used; LEA finishes with any address.
+fn modrm<'a>(seen: &Seen<'a>) -> Option<&'a [u8]> {
+    let opcode = seen.instruction.opcode;
+    if seen.instruction.memory().is_none() || matches!(opcode, 0x8D | 0xA0..=0xA3) {
+        return None;
+    }
+    let before = prefixes(seen.bytes).len() + if opcode > 0xFF { 2 } else { 1 };
+    Some(&seen.bytes[before..])
+}
+
+/// An order of prefixes as text.
+fn prefix_name(prefixes: &&[u8]) -> String {
+    match prefixes {
+        [] => "none".to_string(),
+        _ => prefixes.iter().map(|byte| format!("{byte:02X}")).collect::<Vec<String>>().join(" "),
+    }
 }
 
 impl Coverage {
-    /// Nothing counted yet; every form and number that exists is listed.
+    /// Nothing counted yet; every form, number and shape that exists is listed.
     pub fn new<'a>(form_names: impl Iterator<Item = &'a str>) -> Self {
         let zero = |numbers: &[u32]| numbers.iter().map(|&number| (number, 0)).collect();
+        let modrm = (0..24).map(|place| format!("mod {} r/m {}", place / 8, place % 8));
+        let sib = |mode| Group::new(format!("SIB bytes with mod {mode}"), (0..=0xFF).map(|byte| format!("{byte:02X}")));
         Coverage {
             forms: form_names.map(|name| (name.to_string(), Count::default())).collect(),
             runs: zero(&[0, 1, 2, 3, 4, 5, 6, 7, 10, 11, 12, 13]),
             checks: zero(&[0, 10, 14, 21, 22, 23]),
+            course: Course::default(),
+            inside: false,
+            resumed: 0,
+            jumped: 0,
+            modrm: Group::new("ModR/M shapes of memory".to_string(), modrm),
+            sib: [0, 1, 2].map(sib),
+            prefixes: Group::new("prefix orders".to_string(), PREFIXES.iter().map(prefix_name)),
         }
     }
 
     /// Counts an instruction that a run came to.
     pub fn saw(&mut self, seen: &Seen) {
         let count = self.forms.entry(form(seen.bytes, seen.instruction)).or_default();
-        match seen.stop {
-            None => count.finished += 1,
-            Some(_) => count.stopped += 1,
+        match seen.stepped {
+            Ok(step) => {
+                count.finished += 1;
+                self.shapes(seen);
+                self.course.follow(seen, &step);
+            }
+            Err(_) => count.stopped += 1,
         }
     }
 
-    /// Counts the number that a run gave.
-    pub fn ran(&mut self, number: u32) {
-        *self.runs.entry(number).or_default() += 1;
+    /// Counts the shapes of a finished step.
+    fn shapes(&mut self, seen: &Seen) {
+        let order = PREFIXES.iter().position(|order| *order == prefixes(seen.bytes));
+        self.prefixes.count(order.expect("no instruction has other prefixes"));
+        if let Some(bytes) = modrm(seen) {
+            let (mode, rm) = (usize::from(bytes[0] >> 6), usize::from(bytes[0] & 7));
+            self.modrm.count(8 * mode + rm);
+            if rm == 4 {
+                self.sib[mode].count(usize::from(bytes[1]));
+            }
+        }
+    }
+
+    /// Counts the number and the course of a run.
+    pub fn ran(&mut self, outcome: &Outcome) {
+        *self.runs.entry(outcome.number).or_default() += 1;
+        let course = std::mem::take(&mut self.course);
+        self.inside = course.inside;
+        self.resumed += u64::from(course.resumed && outcome.steps > 0);
+        self.jumped += u64::from(course.jumped);
+    }
+
+    /// Notes that the next run goes on from the last one's end.
+    pub fn resume(&mut self) {
+        self.course.resumed = self.inside;
     }
 
     /// Counts the number that a check gave.
@@ -50,13 +169,24 @@ impl Coverage {
         *self.checks.entry(number).or_default() += 1;
     }
 
-    /// Forms that never finished a step, and numbers that never came.
+    /// The two counts of courses with their names.
+    fn courses(&self) -> [(u64, &'static str); 2] {
+        [(self.resumed, "resumed inside a repeated instruction"), (self.jumped, "block with a jump taken")]
+    }
+
+    /// The groups of shapes.
+    fn groups(&self) -> impl Iterator<Item = &Group> {
+        [&self.modrm].into_iter().chain(&self.sib).chain([&self.prefixes])
+    }
+
+    /// Forms that never finished a step, and numbers and courses that never came.
     pub fn holes(&self) -> Vec<String> {
         let forms = self.forms.iter().filter(|(_, count)| count.finished == 0).map(|(name, _)| name.clone());
         let runs = self.runs.iter().filter(|(_, &count)| count == 0).map(|(number, _)| format!("run number {number}"));
         let checks =
             self.checks.iter().filter(|(_, &count)| count == 0).map(|(number, _)| format!("check number {number}"));
-        forms.chain(runs).chain(checks).collect()
+        let courses = self.courses().into_iter().filter(|(count, _)| *count == 0).map(|(_, name)| name.to_string());
+        forms.chain(runs).chain(checks).chain(courses).collect()
     }
 }
 
@@ -72,10 +202,16 @@ impl Display for Coverage {
         for (number, count) in &self.checks {
             writeln!(out, "{count}\t\tcheck number {number}")?;
         }
+        for (count, name) in self.courses() {
+            writeln!(out, "{count}\t\t{name}")?;
+        }
         let holes = self.holes();
         writeln!(out, "{} forms, {} holes", self.forms.len(), holes.len())?;
         for hole in holes {
             writeln!(out, "hole: {hole}")?;
+        }
+        for group in self.groups() {
+            writeln!(out, "{group}")?;
         }
         Ok(())
     }

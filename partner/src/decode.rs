@@ -2,6 +2,10 @@
 
 use crate::machine::{Width, EAX, EBP, ECX, ESP};
 
+/// All orders of prefixes that an instruction may begin with.
+pub const PREFIXES: [&[u8]; 8] =
+    [&[], &[0x66], &[0xF3], &[0xF2], &[0x66, 0xF3], &[0xF3, 0x66], &[0x66, 0xF2], &[0xF2, 0x66]];
+
 /// Why bytes are no instruction.
 #[derive(Clone, Copy, PartialEq, Eq, Debug)]
 pub enum Refusal {
@@ -164,6 +168,27 @@ impl Instruction {
             Operation::Jcc(_, by) | Operation::Loop(_, by) => Some(by),
             _ => None,
         }
+    }
+
+    /// The memory operand that a ModR/M byte or an address gives.
+    pub fn memory(&self) -> Option<Address> {
+        let operands = match self.operation {
+            Operation::Alu(_, to, from) | Operation::Mov(to, from) => vec![to, from],
+            Operation::Test(left, right) | Operation::Xchg(left, right) => vec![left, right],
+            Operation::Imul(_, left, right) => vec![left, right],
+            Operation::Lea(_, address) => vec![Operand::Memory(address)],
+            Operation::Movzx(_, from, _) | Operation::Movsx(_, from, _) => vec![from],
+            Operation::Inc(one) | Operation::Dec(one) | Operation::Not(one) | Operation::Neg(one) => vec![one],
+            Operation::Mul(one) | Operation::ImulWide(one) | Operation::Div(one) | Operation::Idiv(one) => vec![one],
+            Operation::Shift(_, to, _) | Operation::Setcc(_, to) => vec![to],
+            Operation::Push(from) => vec![from],
+            Operation::Call(Target::Absolute(operand)) | Operation::Jmp(Target::Absolute(operand)) => vec![operand],
+            _ => vec![],
+        };
+        operands.into_iter().find_map(|operand| match operand {
+            Operand::Memory(address) => Some(address),
+            _ => None,
+        })
     }
 }
 

@@ -2,7 +2,7 @@
 
 use crate::decode::Instruction;
 use crate::machine::{Machine, ALWAYS, KNOWN, MAX_BUDGET, MAX_BYTES};
-use crate::step::{execute, fetch, Stop};
+use crate::step::{execute, fetch, Step, Stop};
 
 /// What a run gives back beside the data.
 #[derive(Clone, Copy, PartialEq, Eq, Debug)]
@@ -20,8 +20,10 @@ pub struct Seen<'a> {
     pub instruction: &'a Instruction,
     /// The instruction's own bytes.
     pub bytes: &'a [u8],
-    /// The stop, if the instruction didn't finish.
-    pub stop: Option<Stop>,
+    /// The instruction's address.
+    pub eip: u32,
+    /// The finished step, or the stop.
+    pub stepped: Result<Step, Stop>,
 }
 
 /// The first of numbers 10 to 13 that applies.
@@ -60,7 +62,7 @@ pub fn run_observed(
     while outcome.steps < budget {
         let stepped = fetch(&outcome.machine, code).and_then(|(instruction, bytes)| {
             let stepped = execute(&outcome.machine, &instruction, data);
-            observe(Seen { instruction: &instruction, bytes, stop: stepped.err() });
+            observe(Seen { instruction: &instruction, bytes, eip: outcome.machine.eip, stepped });
             stepped
         });
         match stepped {

@@ -156,10 +156,15 @@ pub fn describe(bytes: &[u8]) -> String {
     }
 }
 
+/// The prefixes that an instruction's bytes begin with.
+pub fn prefixes(bytes: &[u8]) -> &[u8] {
+    let count = bytes.iter().take_while(|byte| matches!(byte, 0x66 | 0xF2 | 0xF3)).count();
+    &bytes[..count]
+}
+
 /// The instruction's form: prefixes and opcode in hex, mnemonic, kinds of operands.
 pub fn form(bytes: &[u8], instruction: &Instruction) -> String {
-    let prefixes: String =
-        bytes.iter().take_while(|byte| matches!(byte, 0x66 | 0xF2 | 0xF3)).map(|byte| format!("{byte:02X} ")).collect();
+    let prefixes: String = prefixes(bytes).iter().map(|byte| format!("{byte:02X} ")).collect();
     let (mnemonic, operands) = parts(instruction);
     let kinds: Vec<String> = operands.iter().map(|(operand, width)| operand_kind(operand, *width)).collect();
     let opcode = match instruction.opcode {

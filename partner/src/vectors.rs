@@ -35,7 +35,7 @@ const NO_MACHINE: &str = "-\t-\t-\t-\t-\t-\t-\t-\t-\t-";
 fn write_run(out: &mut impl Write, case: &RunCase, coverage: &mut Coverage) -> io::Result<RunCase> {
     let mut data = case.data.clone();
     let outcome = run_observed(case.machine, &case.code, &mut data, case.budget, |seen| coverage.saw(&seen));
-    coverage.ran(outcome.number);
+    coverage.ran(&outcome);
     writeln!(
         out,
         "run\t{}\t{:X}\t{:X}\t{}\t{:X}\t{}\t{:X}\t{:X}\t{:X}\t{}\t{:X}\t{}",
@@ -94,6 +94,7 @@ pub fn write_vectors(out: &mut impl Write, seed: u64, count: u64) -> io::Result<
                 let rest = write_run(out, &case, &mut coverage)?;
                 lines += 1;
                 if lines < count {
+                    coverage.resume();
                     write_run(out, &RunCase { budget: more, ..rest }, &mut coverage)?;
                     lines += 1;
                 }

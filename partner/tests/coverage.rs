@@ -1,0 +1,58 @@
+//! The coverage counts courses and shows holes.
+
+use partner::coverage::Coverage;
+use partner::machine::{Machine, ALWAYS, CODE_BASE, DATA_BASE};
+use partner::run::run_observed;
+
+/// The report of runs of the code with these budgets, each going on from the last one's end.
+fn report(code: &[u8], budgets: &[u64]) -> String {
+    let mut coverage = Coverage::new(std::iter::empty());
+    let mut machine = Machine { regs: [0, 3, 0, 0, 0, 0, DATA_BASE, DATA_BASE], eip: CODE_BASE, flags: ALWAYS };
+    for &budget in budgets {
+        let outcome = run_observed(machine, code, &mut [0; 8], budget, |seen| coverage.saw(&seen));
+        coverage.ran(&outcome);
+        coverage.resume();
+        machine = outcome.machine;
+    }
+    coverage.to_string()
+}
+
+#[test]
+fn resumed_repeats_are_counted() {
+    let count = |budgets: &[u64], expected: u32| {
+        let line = format!("\n{expected}\t\tresumed inside a repeated instruction\n");
+        assert!(report(&[0xF3, 0xA4, 0x90], budgets).contains(&line));
+    };
+    count(&[2, 1], 1);
+    count(&[1, 1, 1], 2);
+    // The repeated instruction is finished, not begun, or not gone on with.
+    count(&[3, 1], 0);
+    count(&[0, 1], 0);
+    count(&[2, 0], 0);
+}
+
+#[test]
+fn jumps_taken_are_counted() {
+    let count = |code: &[u8], budget: u64, expected: u32| {
+        assert!(report(code, &[budget]).contains(&format!("\n{expected}\t\tblock with a jump taken\n")));
+    };
+    count(&[0xEB, 1, 0x90, 0x90], 2, 1);
+    // Nothing finishes behind the jump, it isn't taken, or it goes to itself.
+    count(&[0xEB, 1, 0x90, 0x90], 1, 0);
+    count(&[0x74, 1, 0x90, 0x90], 2, 0);
+    count(&[0xEB, 0xFE], 2, 0);
+}
+
+#[test]
+fn shapes_never_finished_are_holes() {
+    // XCHG AX,AX; MOV AL,[ESI]; LEA EAX,[ESI+ESI], which uses no memory; MOV AL,[ESI+ESI+1], which stops.
+    let report = report(&[0x66, 0x90, 0x8A, 0x04, 0x26, 0x8D, 0x04, 0x36, 0x8A, 0x44, 0x36, 0x01], &[4]);
+    for line in [
+        "\n1 of 24 ModR/M shapes of memory, least 0, holes: mod 0 r/m 0, ",
+        "\n1 of 256 SIB bytes with mod 0, least 0, holes: 00, ",
+        "\n0 of 256 SIB bytes with mod 1, least 0, holes: 00, ",
+        "\n2 of 8 prefix orders, least 0, holes: F3, F2, 66 F3, F3 66, 66 F2, F2 66\n",
+    ] {
+        assert!(report.contains(line), "no {line:?} in:\n{report}");
+    }
+}
