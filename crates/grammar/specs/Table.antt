@@ -1,4 +1,4 @@
--- The table of opcodes, and an entry of it in words: a digit a property.
+-- The code's table of opcodes, and an entry of it in words: a digit a property. That it says what document 01's lists say is proved.
 -- Assumes nothing.
 use mathlib.Core.List.{List, [], _∷_}
 use Prim.Native.Nat.{ℕ, _*_, _/_, _%_, _^_}

@@ -1,4 +1,4 @@
-// The table of opcodes, an entry a number, and each entry in words.
+// The table of opcodes, four entries to a word, and an entry in words.
 use crate::rule::Entry;
 use crate::rule::Immediate;
 use crate::rule::ModRM;

@@ -1,4 +1,4 @@
--- The table of opcodes, and what it has of one in words: a number for the kind, and a digit for each other property. Assumes nothing.
+-- The code's tables of opcodes, and what they have of one in words: a number for the kind, and a digit for each other property. That they say what the lists say is proved. Assumes nothing.
 use mathlib.Core.List.{List, [], _∷_}
 use Prim.Native.Nat.{ℕ, _*_, _/_, _%_, _^_}
 use lib.Dec.{eqb}

@@ -1,4 +1,4 @@
-// The table of opcodes, an entry a number, and each entry in words.
+// The tables of opcodes, some entries to a word, and an opcode's entries in words.
 use crate::Kind;
 use crate::Place;
 use crate::Sense;
