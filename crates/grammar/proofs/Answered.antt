@@ -6,7 +6,7 @@ use Prim.Native.Nat.{ℕ, _+_, _<_, _≤_}
 use native.Mathlib.Omega.{arith}
 use lib.ListN.{length, take, drop, length-append, length-drop}
 use lib.Seq.{take-at}
-use Rattle.grammar.specs.Grammar.{prefixBytes, Opcode, alone, after0F, opcodeByte, opcodeBytes, numberOf, operandBytes, Parts, Instruction, bytesOf}
+use Rattle.grammar.specs.Grammar.{prefixBytes, Opcode, alone, after0F, opcodeBytes, operandBytes, Parts, Instruction, bytesOf}
 use Rattle.grammar.specs.Answers.{numbers, Begins, Prefix, Answers, instruction, cut, unknown}
 use Rattle.grammar.specs.Reading.{Outcome, whole, short, wrong, run}
 use Rattle.grammar.specs.Decoding.{tree, answer, found, decodeOf, Decodes}
@@ -173,18 +173,3 @@ is-unknown (unknown b p) e = (b, p)
 -- where it gives unknown, they neither begin with an instruction nor are such a prefix
 pub found-unknown : (code : List ℕ) (at : ℕ) → decodeOf code at ≡ Found.Unknown → (Begins (drop at code) → ⊥) × (Prefix (drop at code) → ⊥)
 found-unknown code at e = is-unknown (decode-answers code at) e
-
--- an opcode's number is below 512
-number-small : (o : Opcode) → opcodeByte o < 256 → numberOf o < 512
-unfolding numberOf
-number-small (alone b) h = omega arith
-number-small (after0F b) h = omega arith
-
--- a found opcode is in the table
-pub found-opcode : (code : List ℕ) (at : ℕ) (d : Decoded) → decodeOf code at ≡ Found.Instruction d → d .opcode < 512
-unfolding numbers
-found-opcode code at d e =
-    let s = found-standing code at d e in
-    let same : numberOf (s .own .parts .opcode) ≡ d .opcode = ap (λ (x : Decoded). x .opcode) (s .numbered) in
-    let small = number-small (s .own .parts .opcode) (s .own .built .opcode) in
-    omega arith

@@ -1,3 +1,4 @@
 -- The definitions of `run`. Assumes nothing.
 pub mod Steps
+pub mod Fetching
 pub mod Runs

@@ -5,7 +5,6 @@ use mathlib.Core.List.{List}
 use Prim.Native.Nat.{ℕ, _+_, _-_}
 use lib.Dec.{leb, ltb, eqb}
 use lib.ListN.{length}
-use Rattle.width.specs.declared.Size.{Size}
 use Rattle.machine.specs.declared.registers.Machine.{Machine}
 use Rattle.machine.specs.declared.memory.Loaded.{Loaded}
 use Rattle.machine.specs.declared.memory.Loaded.the-variants.{Value}
@@ -23,7 +22,6 @@ use Rattle.effect.specs.declared.outcome.Effect.{Effect}
 use Rattle.effect.specs.declared.outcome.Reads.{Reads}
 use Rattle.effect.specs.declared.outcome.Reads.the-variants.{Nothing, One, Two}
 use Rattle.effect.specs.All.{readsBy, effectBy}
-use Rattle.run.specs.declared.step.Fetched.{Fetched}
 use Rattle.run.specs.declared.step.Stepped.{Stepped}
 
 -- what a step comes to: the next machine and data, or a number and an address, and then nothing has changed
@@ -64,19 +62,6 @@ unfoldable pub performed : Reads → Plan → Machine → List ℕ → Moved
 performed Nothing p m d = finished p m d 0 0
 performed (One w a) p m d = loaded (loadOf d w a) (λ r. finished p m d r 0)
 performed (Two w a b) p m d = loaded (loadOf d w a) (λ r. loaded (loadOf d w b) (λ s. finished p m d r s))
-
--- what was read, and then the effect; or the address that is outside
-unfoldable pub fetched : Fetched → Plan → Machine → List ℕ → Moved
-fetched (Fetched.Values r s) p m d = finished p m d r s
-fetched (Fetched.Outside a) p m d = stop 5 a
-
--- f is what the reads give, whatever the plan and the machine
-pub record Fetches (d : List ℕ) (reads : Reads) (f : Fetched) : Type 0 where
-  pub is : (p : Plan) (m : Machine) → performed reads p m d ≡ fetched f p m d
-
--- f is what the second read of two gives
-pub record FetchesSecond (d : List ℕ) (r : ℕ) (w : Size) (a : ℕ) (f : Fetched) : Type 0 where
-  pub is : (p : Plan) (m : Machine) → loaded (loadOf d w a) (λ s. finished p m d r s) ≡ fetched f p m d
 
 -- the step of a plan
 unfoldable pub planned : Plan → Machine → List ℕ → Moved

@@ -11,6 +11,7 @@ use machine::registers::Machine;
 use plan::Plan;
 use width::Size;
 ghost use mathlib.Core.Path.{_≡_};
+ghost use Rattle.machine.specs.Memory.{loadOf};
 ghost use Rattle.grammar.specs.Decoding.{decodeOf};
 ghost use Rattle.run.specs.Steps.{
   stoppedAt,
@@ -20,11 +21,11 @@ ghost use Rattle.run.specs.Steps.{
   executed,
   planned,
   performed,
+  loaded,
   finished,
   committed,
-  Fetches,
-  FetchesSecond,
 };
+ghost use Rattle.run.specs.Fetching.{Fetches};
 
 // What a step comes to: the next machine, or the same one with a number and an address.
 pub struct Stepped {
@@ -93,7 +94,9 @@ enum Fetched {
 
 // The second read of two, where r is the first.
 fn fetch_second(area: &[u8], r: u32, w: Size, a: u32) -> Fetched
-    ensures { λ f. ⌜ FetchesSecond (now (area .entry)) r w a f ⌝ }
+    ensures { λ f. ⌜
+        Fetches (λ p m. loaded (loadOf (now (area .entry)) w a) (λ s. finished p m (now (area .entry)) r s)) (now (area .entry)) f
+        ⌝ }
 {
     match machine::memory::load(area, w, a) {
         Loaded::Value(s) => Fetched::Values {
@@ -106,7 +109,7 @@ fn fetch_second(area: &[u8], r: u32, w: Size, a: u32) -> Fetched
 
 // The reads, in their order.
 fn fetch(reads: Reads, area: &[u8]) -> Fetched
-    ensures { λ f. ⌜ Fetches (now (area .entry)) reads f ⌝ }
+    ensures { λ f. ⌜ Fetches (λ p m. performed reads p m (now (area .entry))) (now (area .entry)) f ⌝ }
 {
     match reads {
         Reads::Nothing => Fetched::Values {

@@ -14,14 +14,10 @@ all-right : values (λ k. senseAt (kindOf k) (placesOf k)) 0 512 ≡ values sens
 unfolding senseAt senseOf senses listed pick
 all-right = refl
 
--- so each entry is
-pub table-rule : (k : ℕ) → k < 512 → senseAt (kindOf k) (placesOf k) ≡ senseOf k
-table-rule k h = carried (λ k. senseAt (kindOf k) (placesOf k)) senseOf 512 all-right k h
-
--- and so it is, read off the words that hold it
+-- so each entry is, read off the words that hold it
 pub words-rule : (k : ℕ) {kind place : ℕ} → kind ≡ getD kinds (k / 8) 0x0A_0A_0A_0A_0A_0A_0A_0A → place ≡ getD places (k / 4) 0 → k < 512
     → senseAt (kind / 2 ^ (8 * (k % 8)) % 256) (place / 2 ^ (16 * (k % 4)) % 65536) ≡ senseOf k
-words-rule k e f h = rw (e, f) (table-rule k h)
+words-rule k e f h = rw (e, f) (carried (λ i. senseAt (kindOf i) (placesOf i)) senseOf 512 all-right k h)
 
 -- no line passes the table
 pub past-table : (k : ℕ) → 512 ≤ k → senseOf k ≡ senseAt 0x0A 0x0000

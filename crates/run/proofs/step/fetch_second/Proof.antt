@@ -3,7 +3,8 @@ use mathlib.Core.Path.{sym, _∙_}
 use borrow.Author.Needs.{needs}
 use Rattle.run.proofs.step.fetch_second.Statement.{statement}
 use Rattle.run.proofs.step.fetch_second.Tie as tie
-use Rattle.run.specs.Steps.{loaded, fetched}
+use Rattle.run.specs.Fetching.{fetched}
+use Rattle.run.specs.Steps.{loaded}
 
 returns : tie.Need-returns
 unfolding loaded fetched

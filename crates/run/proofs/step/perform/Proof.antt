@@ -3,7 +3,8 @@ use mathlib.Core.Path.{refl}
 use borrow.Author.Needs.{needs}
 use Rattle.run.proofs.step.perform.Statement.{statement}
 use Rattle.run.proofs.step.perform.Tie as tie
-use Rattle.run.specs.Steps.{fetched, steppedOf, dataAfter}
+use Rattle.run.specs.Fetching.{fetched}
+use Rattle.run.specs.Steps.{steppedOf, dataAfter}
 
 returns : tie.Need-returns
 unfolding fetched

@@ -1,0 +1,17 @@
+-- How the step's code fetches what an operation reads before the effect. Assumes nothing.
+use mathlib.Core.Path.{_≡_}
+use mathlib.Core.List.{List}
+use Prim.Native.Nat.{ℕ}
+use Rattle.machine.specs.declared.registers.Machine.{Machine}
+use Rattle.plan.specs.declared.Plan.{Plan}
+use Rattle.run.specs.declared.step.Fetched.{Fetched}
+use Rattle.run.specs.Steps.{Moved, stop, finished}
+
+-- what was read, and then the effect; or the address that is outside
+unfoldable pub fetched : Fetched → Plan → Machine → List ℕ → Moved
+fetched (Fetched.Values r s) p m d = finished p m d r s
+fetched (Fetched.Outside a) p m d = stop 5 a
+
+-- f is all that some reading gives to the step of any plan from any machine
+pub record Fetches (reading : Plan → Machine → Moved) (d : List ℕ) (f : Fetched) : Type 0 where
+  pub is : (p : Plan) (m : Machine) → reading p m ≡ fetched f p m d
