@@ -1,23 +1,95 @@
--- The table's rule: each entry, in words, is what document 01's lists say of its opcode.
+-- The table's rule: equal opcodes have one rule, and an opcode that is none of those that the lists name has none.
 -- Assumes nothing.
-use mathlib.Core.Path.{_≡_, refl, ap, sym, _∙_, subst}
+use mathlib.Core.Path.{_≡_, refl, ap, sym, _∙_}
 use mathlib.Core.Bool.{Bool, true, false}
 use mathlib.Core.List.{List, [], _∷_}
-use Prim.Native.Nat.{ℕ, _/_, _%_, _≤_}
+use Prim.Native.Nat.{ℕ, zero, suc, _+_, _-_, _/_, _%_, _≤_}
 use native.Mathlib.Omega.{arith}
-use lib.Dec.{T, leb, ltb, eqb, ltb→lt, eqb→eq}
-use borrow.Author.Tests.{lt-leb, ltb-true, ltb-false}
-use Rattle.grammar.specs.Choice.{pick, both}
-use Rattle.grammar.specs.Opcodes.{Line, Form, unlisted, listed, forms, with66, withF2, withF3, repeatsOf, entryOf, ruleOf}
-use Rattle.grammar.specs.Table.{immediateAt, kindIn, entryAt, digitsOf}
+use lib.Dec.{T, leb, ltb, eqb, ltb→lt}
+use borrow.Author.Tests.{eqb-true, leb-true, lt-leb}
+use Rattle.grammar.specs.Choice.{pick, both, either}
+use Rattle.grammar.specs.Opcodes.{Line, Form, unlisted, listed, lists, forms, with66, withF2, withF3, repeatsOf, entryOf, ruleOf}
+use Rattle.grammar.specs.Table.{immediateAt, kindIn, entryAt}
 use Rattle.grammar.specs.declared.rule.Prefix66.{Prefix66}
+use Rattle.grammar.specs.declared.rule.Rule.{Rule}
 use Rattle.grammar.specs.declared.rule.Entry.{Entry}
-use Rattle.grammar.proofs.Below.{both-left, both-right, both-right-fails, values, carried}
+use Rattle.grammar.proofs.Below.{both-left, both-right, both-right-fails}
 
--- the entries in words are the opcodes' rules, one after the other
-all-right : values (λ k. entryAt (digitsOf k)) 0 512 ≡ values ruleOf 0 512
-unfolding digitsOf entryAt ruleOf pick
-all-right = refl
+-- equal opcodes have one rule
+pub same-rule : {k n : ℕ} → k ≡ n → ruleOf n ≡ ruleOf k
+same-rule e = ap ruleOf (sym e)
+
+-- what lines say of an opcode that they do not list
+pub says-other : {A : Type 0} (ls : List (Line A)) (other : A) (k : ℕ) → lists ls k ≡ false → listed ls other k ≡ other
+unfolding lists listed pick
+says-other [] other k none = refl
+says-other (l ∷ ls) other k none = by (both (leb (l .first) k) (leb k (l .last))) none (says-other ls other k)
+  where
+    by : (here : Bool) → either here (lists ls k) ≡ false → (lists ls k ≡ false → listed ls other k ≡ other)
+        → pick here (l .says) (listed ls other k) ≡ other
+    by true none later = absurd (let z : _≡_ {A = ℕ} 0 1 = cc in omega arith)
+    by false none later = later none
+
+-- an opcode that the lists do not name has no rule
+without-rule : (k : ℕ) → lists forms k ≡ false → ruleOf k ≡ Entry.Unlisted
+unfolding ruleOf
+without-rule k none =
+    ap (λ (f : Form). entryOf f (listed with66 Prefix66.Refused k) (repeatsOf (listed withF2 false k) (listed withF3 false k)))
+    (says-other forms unlisted k none)
+
+-- so the lists name each opcode that has one
+pub ruled-listed : (k : ℕ) {rule : Rule} → ruleOf k ≡ Entry.Listed rule → lists forms k ≡ true
+ruled-listed k {rule} e = by (lists forms k) refl
+  where
+    by : (named : Bool) → lists forms k ≡ named → named ≡ true
+    by true f = refl
+    by false f =
+        let none = without-rule k f in
+        absurd (let z : _≡_ {A = ℕ} 0 1 = cc in omega arith)
+
+-- besides P, x is none of the n numbers from a on
+abbrev pub NoneFrom : ℕ → ℕ → ℕ → Type 0 → Type 0
+NoneFrom a zero x P = P
+NoneFrom a (suc n) x P = NoneFrom (suc a) n x (P × (x ≡ a → ⊥))
+
+-- besides P, x is none of the numbers that the lines list, one after the other
+abbrev pub NoneOf : {A : Type 0} → List (Line A) → ℕ → Type 0 → Type 0
+NoneOf [] x P = P
+NoneOf (l ∷ ls) x P = NoneOf ls x (NoneFrom (l .first) (suc (l .last) - l .first) x P)
+
+-- so x lies below them or above
+none-from : (a n x : ℕ) {P : Type 0} → NoneFrom a n x P → P × (a ≤ x → a + n ≤ x)
+none-from a zero x h = (h, λ low. omega arith)
+none-from a (suc n) x h =
+    let rest = none-from (suc a) n x h in
+    let other = rest .0 .1 in
+    let further = rest .1 in
+    (rest .0 .0, λ low. (let above : suc a ≤ x = omega arith in let past = further above in omega arith))
+
+-- and the line does not list it
+not-between : (a b x : ℕ) → (a ≤ x → a + (suc b - a) ≤ x) → both (leb a x) (leb x b) ≡ false
+not-between a b x h = by (leb a x) refl (leb x b) refl
+  where
+    by : (low : Bool) → leb a x ≡ low → (high : Bool) → leb x b ≡ high → both low high ≡ false
+    by false e high f = refl
+    by true e false f = refl
+    by true e true f =
+        let past = h (leb-true a x e) in
+        let most = leb-true x b f in
+        absurd (omega arith)
+
+-- nor do the lines
+pub not-listed : {A : Type 0} (ls : List (Line A)) (x : ℕ) {P : Type 0} → NoneOf ls x P → P × (lists ls x ≡ false)
+unfolding lists
+not-listed [] x h = (h, refl)
+not-listed (l ∷ ls) x h =
+    let later = not-listed ls x h in
+    let here = none-from (l .first) (suc (l .last) - l .first) x (later .0) in
+    (here .0, rw (not-between (l .first) (l .last) x (here .1)) (later .1))
+
+-- an opcode that is none of the lists' has no rule
+pub no-rule : (k : ℕ) → NoneOf forms k (Unit {0}) → Entry.Unlisted ≡ ruleOf k
+no-rule k none = sym (without-rule k (not-listed forms k none .1))
 
 -- each line ends below n
 unfoldable pub ends : {A : Type 0} → List (Line A) → ℕ → Bool
@@ -25,40 +97,20 @@ ends [] n = true
 ends (l ∷ ls) n = both (ltb (l .last) n) (ends ls n)
 
 -- past their ends the lines list nothing
-pub listed-past : {A : Type 0} (ls : List (Line A)) (other : A) (n k : ℕ) → T (ends ls n) → n ≤ k → listed ls other k ≡ other
-unfolding listed ends pick
-listed-past [] other n k t h = refl
-listed-past (l ∷ ls) other n k t h =
+pub lists-past : {A : Type 0} (ls : List (Line A)) (n k : ℕ) → T (ends ls n) → n ≤ k → lists ls k ≡ false
+unfolding lists ends
+lists-past [] n k t h = refl
+lists-past (l ∷ ls) n k t h =
     let below-n = ltb→lt (l .last) n (both-left (ltb (l .last) n) (ends ls n) t) in
     let outside : leb k (l .last) ≡ false = lt-leb k (l .last) (omega arith) in
-    rw (both-right-fails (leb (l .first) k) outside) (listed-past ls other n k (both-right (ltb (l .last) n) (ends ls n) t) h)
-
--- no opcode passes the table
-pub past-table : (k : ℕ) → 512 ≤ k → ruleOf k ≡ Entry.Unlisted
-unfolding ruleOf ends
-past-table k h =
-    ap (λ (f : Form). entryOf f (listed with66 Prefix66.Refused k) (repeatsOf (listed withF2 false k) (listed withF3 false k)))
-    (listed-past forms unlisted 512 k tt h)
-
--- nor has the table digits of one
-past-digits : (k : ℕ) → ltb k 512 ≡ false → entryAt (digitsOf k) ≡ ruleOf k
-unfolding digitsOf entryAt pick
-past-digits k e = rw e (sym (past-table k (ltb-false k 512 e)))
-
--- the table's rule, at each opcode
-pub table-rule : (k : ℕ) → entryAt (digitsOf k) ≡ ruleOf k
-table-rule k = go (ltb k 512) refl
-  where
-    go : (below : Bool) → ltb k 512 ≡ below → entryAt (digitsOf k) ≡ ruleOf k
-    go true e = carried (λ i. entryAt (digitsOf i)) ruleOf 512 all-right k (ltb-true k 512 e)
-    go false e = past-digits k e
+    rw (both-right-fails (leb (l .first) k) outside) (lists-past ls n k (both-right (ltb (l .last) n) (ends ls n) t) h)
 
 -- an entry's second digit, in words, is what its rule says of the immediate
 second-digit : (x : ℕ) (none : Bool) → eqb x 0xFFFF ≡ none → immediateAt (x / 16 % 16) ≡ kindIn (entryAt x)
 unfolding entryAt pick
-second-digit x true e = rw (eqb→eq x 0xFFFF (subst T (sym e) tt))
+second-digit x true e = rw (eqb-true x 0xFFFF e)
 second-digit x false e = rw e
 
--- so an opcode's second digit is what its rule says of the immediate
-pub kind-rule : (k : ℕ) → immediateAt (digitsOf k / 16 % 16) ≡ kindIn (ruleOf k)
-kind-rule k = second-digit (digitsOf k) (eqb (digitsOf k) 0xFFFF) refl ∙ ap kindIn (table-rule k)
+-- so an opcode's is what its rule says
+pub kind-rule : (k x : ℕ) → entryAt x ≡ ruleOf k → immediateAt (x / 16 % 16) ≡ kindIn (ruleOf k)
+kind-rule k x e = second-digit x (eqb x 0xFFFF) refl ∙ ap kindIn e

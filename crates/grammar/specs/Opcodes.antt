@@ -4,7 +4,7 @@ use mathlib.Core.Bool.{Bool, true, false}
 use mathlib.Core.List.{List, [], _∷_, _++_}
 use Prim.Native.Nat.{ℕ, _+_, _*_}
 use lib.Dec.{leb}
-use Rattle.grammar.specs.Choice.{pick, both}
+use Rattle.grammar.specs.Choice.{pick, both, either}
 use Rattle.grammar.specs.declared.rule.ModRM.{ModRM}
 use Rattle.grammar.specs.declared.rule.ModRM.the-variants.{Any, Memory, AllBut6, Only0, AllBut1, Only01, Only01246}
 use Rattle.grammar.specs.declared.rule.Immediate.{Immediate}
@@ -31,6 +31,11 @@ at k x = from k k x
 unfoldable pub listed : {A : Type 0} → List (Line A) → A → ℕ → A
 listed [] other k = other
 listed (l ∷ ls) other k = pick (both (leb (l .first) k) (leb k (l .last))) (l .says) (listed ls other k)
+
+-- whether the lines list an opcode
+unfoldable pub lists : {A : Type 0} → List (Line A) → ℕ → Bool
+lists [] k = false
+lists (l ∷ ls) k = either (both (leb (l .first) k) (leb k (l .last))) (lists ls k)
 
 -- what follows an opcode
 pub data Form : Type 0 where

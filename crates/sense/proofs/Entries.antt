@@ -1,25 +1,42 @@
--- The table's rule: each entry, in words, is what the lists say of its opcode, and they say nothing past the table. Assumes nothing.
-use mathlib.Core.Path.{_≡_, refl}
-use Prim.Native.Nat.{ℕ, _*_, _/_, _%_, _^_, _<_, _≤_}
-use lib.ListN.{getD}
-use Rattle.grammar.specs.Choice.{pick}
-use Rattle.grammar.specs.Opcodes.{listed}
+-- The map's rule: equal opcodes have one meaning, and the lists of meanings name the same opcodes as the grammar's.
+-- Assumes nothing.
+use mathlib.Core.Path.{_≡_, refl, ap, sym, _∙_}
+use mathlib.Core.Bool.{Bool, true, false}
+use Prim.Native.Nat.{ℕ}
+use lib.Dec.{ltb}
+use borrow.Author.Tests.{ltb-true, ltb-false}
+use Rattle.grammar.specs.Opcodes.{lists, forms}
+use Rattle.grammar.specs.Grammar.{Parts, Built, numberOf}
 use Rattle.grammar.proofs.Below.{values, carried}
-use Rattle.grammar.proofs.Entries.{ends, listed-past}
-use Rattle.sense.specs.Senses.{senses, senseOf}
-use Rattle.sense.specs.Table.{kinds, kindOf, places, placesOf, senseAt}
+use Rattle.grammar.proofs.Entries.{says-other, ruled-listed, NoneOf, not-listed, ends, lists-past}
+use Rattle.sense.specs.declared.Kind.{Kind}
+use Rattle.sense.specs.Senses.{alone, senses, senseOf}
 
--- the entries in words are what the lists say, one opcode after the other
-all-right : values (λ k. senseAt (kindOf k) (placesOf k)) 0 512 ≡ values senseOf 0 512
-unfolding senseAt senseOf senses listed pick
-all-right = refl
+-- equal opcodes have one meaning
+pub same-sense : {k n : ℕ} → k ≡ n → senseOf n ≡ senseOf k
+same-sense e = ap senseOf (sym e)
 
--- so each entry is, read off the words that hold it
-pub words-rule : (k : ℕ) {kind place : ℕ} → kind ≡ getD kinds (k / 8) 0x0A_0A_0A_0A_0A_0A_0A_0A → place ≡ getD places (k / 4) 0 → k < 512
-    → senseAt (kind / 2 ^ (8 * (k % 8)) % 256) (place / 2 ^ (16 * (k % 4)) % 65536) ≡ senseOf k
-words-rule k e f h = rw (e, f) (carried (λ i. senseAt (kindOf i) (placesOf i)) senseOf 512 all-right k h)
+-- an opcode that is none of the lists' has none of its own
+pub no-sense : (k : ℕ) → NoneOf senses k (Unit {0}) → alone Kind.Mov ≡ senseOf k
+unfolding senseOf
+no-sense k none = sym (says-other senses (alone Kind.Mov) k (not-listed senses k none .1))
 
--- no line passes the table
-pub past-table : (k : ℕ) → 512 ≤ k → senseOf k ≡ senseAt 0x0A 0x0000
-unfolding senseOf senses ends senseAt
-past-table k h = listed-past senses _ 512 k tt h
+-- the lists of meanings name the grammar's opcodes, one after the other
+all-meant : values (lists senses) 0 512 ≡ values (lists forms) 0 512
+unfolding lists senses forms
+all-meant = refl
+
+-- an opcode is listed with a meaning exactly if the grammar lists it
+pub meant-exactly : (k : ℕ) → lists senses k ≡ lists forms k
+unfolding senses forms ends
+meant-exactly k = by (ltb k 512) refl
+  where
+    by : (below : Bool) → ltb k 512 ≡ below → lists senses k ≡ lists forms k
+    by true e = carried (lists senses) (lists forms) 512 all-meant k (ltb-true k 512 e)
+    by false e =
+        let past = ltb-false k 512 e in
+        lists-past senses 512 k tt past ∙ sym (lists-past forms 512 k tt past)
+
+-- so the opcode of each instruction has a meaning of its own
+pub instruction-meant : {p : Parts} → Built p → lists senses (numberOf (p .opcode)) ≡ true
+instruction-meant {p} built = meant-exactly (numberOf (p .opcode)) ∙ ruled-listed (numberOf (p .opcode)) (built .listed)

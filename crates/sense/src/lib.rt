@@ -1,4 +1,5 @@
 // What an opcode means: its operation, and where its operands are.
+mod meaning;
 pub mod operations;
 pub mod table;
 
