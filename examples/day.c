@@ -1,7 +1,7 @@
 /*
  * Sums the readings of a 25-hour day, the day on which the clocks go back, with a calculation block.
  *
- * From the project's folder, after `rt staticlib sangolid`:
+ * `examples/run-day` does all of it. By hand, from the project's folder, after `rt staticlib sangolid`:
  *   cc -O2 -I include examples/day.c target/staticlib/libsangolid.a -o target/day
  *   target/day | diff - examples/day.expected
  */
@@ -20,9 +20,6 @@
 #define STACK_AT (HOURS * WORD_BYTES) /* the stack is the word behind the readings */
 #define AREA_BYTES (STACK_AT + WORD_BYTES)
 #define BUDGET 1000u /* most steps: far more than a day needs, and a block that never ends is stopped */
-
-/* The places of the state's words. */
-enum { EAX, ECX, EDX, EBX, ESP, EBP, ESI, EDI, EIP, FLAGS, STEPS, ADDRESS, STATE_WORDS };
 
 /* The block: ESI points at the readings, ECX is their count, EAX becomes their sum modulo 2^32. */
 static const uint8_t BLOCK[] = {
@@ -78,7 +75,6 @@ static const char *run_words(uint32_t number) {
     case 11: return "the data has more than 65,536 bytes";
     case 12: return "the flags word has bit 1 clear, or a bit set that is no flag";
     case 13: return "the budget is over 1,000,000";
-    case 90: return "the state doesn't have 12 words";
     default: return "a number that this program doesn't know";
     }
 }
@@ -99,22 +95,22 @@ static int check_block(void) {
 /* Runs the block on the day's readings and prints the result; tells whether the block ended by itself. */
 static int run_block(void) {
     uint8_t area[AREA_BYTES];
-    uint32_t state[STATE_WORDS] = {0};
+    sangolid_state state = {0};
     lay_area(area);
-    state[ECX] = HOURS;
-    state[ESI] = DATA_BASE;
-    state[ESP] = DATA_BASE + STACK_AT;
-    state[EIP] = CODE_BASE;
-    state[FLAGS] = NO_FLAGS;
-    uint32_t number = sangolid_run(state, STATE_WORDS, BLOCK, sizeof BLOCK, area, sizeof area, BUDGET);
+    state.ecx = HOURS;
+    state.esi = DATA_BASE;
+    state.esp = DATA_BASE + STACK_AT;
+    state.eip = CODE_BASE;
+    state.flags = NO_FLAGS;
+    uint32_t number = sangolid_run_state(&state, BLOCK, sizeof BLOCK, area, sizeof area, BUDGET);
     if (number != 1) {
         /* EAX is no sum now: it must not get into the report. */
-        printf("run: number %" PRIu32 " at %08" PRIX32 "h: %s\n", number, state[ADDRESS], run_words(number));
+        printf("run: number %" PRIu32 " at %08" PRIX32 "h: %s\n", number, state.address, run_words(number));
         return 0;
     }
     printf("readings: %" PRIu32 "\n", (uint32_t)HOURS);
-    printf("sum: %" PRIu32 "\n", state[EAX]);
-    printf("steps: %" PRIu32 "\n", state[STEPS]);
+    printf("sum: %" PRIu32 "\n", state.eax);
+    printf("steps: %" PRIu32 "\n", state.steps);
     return 1;
 }
 

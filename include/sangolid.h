@@ -4,6 +4,7 @@
 
 #include <stddef.h>
 #include <stdint.h>
+#include <string.h>
 
 #ifdef __cplusplus
 extern "C" {
@@ -22,7 +23,7 @@ extern "C" {
  * budget     the most steps to take: 0 to 1,000,000.
  *
  * Returns why the run ended, and puts the address that goes with it into the state's last word:
- *    0  the budget is used up; address: EIP. A further call with this state goes on from here.
+ *    0  the budget is used up; address: EIP. A further call with this state and these data goes on from here.
  *    1  EIP is home, FFFF0000h: the block has ended; address: EIP.
  *    2  EIP is outside the code; address: EIP.
  *    3  the code ends inside the instruction at EIP; address: EIP.
@@ -37,6 +38,9 @@ extern "C" {
  *   90  the state doesn't have 12 words.
  * With 1 to 7 all steps before the last stand, and the one that stopped has changed nothing. With 10 to 13 no step was
  * taken: the first ten words and the data stay as they are, steps and address are 0. With 90 nothing is changed.
+ *
+ * A pause changes nothing: a call with budget n and a further one with m, at least 1, leave and return what one with
+ * n + m does, and their steps add up to its steps.
  */
 uint32_t sangolid_run(uint32_t *state, size_t state_len, const uint8_t *code, size_t code_len, uint8_t *area,
                       size_t area_len, uint64_t budget);
@@ -68,6 +72,31 @@ uint32_t sangolid_check(const uint8_t *code, size_t code_len, uint8_t *marks, si
  * For both: a null pointer is fine where its length is 0. The lent areas must not overlap. Nothing is kept after the
  * call, and nothing but these areas is read or written.
  */
+
+/* The state's 12 words by name, in their order. */
+typedef struct sangolid_state {
+    uint32_t eax, ecx, edx, ebx, esp, ebp, esi, edi;
+    uint32_t eip;
+    uint32_t flags;
+    uint32_t steps;
+    uint32_t address;
+} sangolid_state;
+
+#define SANGOLID_STATE_WORDS 12
+
+/* These 12 words are all of it: this doesn't compile where they are not. */
+typedef char sangolid_state_is_12_words[sizeof(sangolid_state) == SANGOLID_STATE_WORDS * sizeof(uint32_t) ? 1 : -1];
+
+/* Runs the block as sangolid_run does, with the state by name; 90 can't come back. */
+static inline uint32_t sangolid_run_state(sangolid_state *state, const uint8_t *code, size_t code_len, uint8_t *area,
+                                          size_t area_len, uint64_t budget) {
+    uint32_t words[SANGOLID_STATE_WORDS];
+    uint32_t number;
+    memcpy(words, state, sizeof words);
+    number = sangolid_run(words, SANGOLID_STATE_WORDS, code, code_len, area, area_len, budget);
+    memcpy(state, words, sizeof words);
+    return number;
+}
 
 #ifdef __cplusplus
 }

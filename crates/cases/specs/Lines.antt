@@ -12,47 +12,50 @@ use Rattle.run.specs.declared.Lent.{Lent}
 use Rattle.run.specs.declared.Ran.{Ran}
 use Rattle.run.specs.Runs.{runOf}
 
--- a run: what it is given, and the machine, steps, number and address that it gives back
+-- a run: what it is given, the machine, steps, number and address that it gives back, and the data that it leaves
 pub record Run : Type 0 where
   pub code : List ℕ
   pub given : Lent
   pub area : List ℕ
   pub budget : ℕ
   pub back : Ran
+  pub left : List ℕ
 
--- the run gives that back
+-- the run gives that back, and leaves those data
 unfoldable pub Gives : Run → Type 0
-Gives c = runOf (c .code) (c .given) (c .area) (c .budget) .ran ≡ c .back
+Gives c = runOf (c .code) (c .given) (c .area) (c .budget) ≡ record { ran = c .back; area = c .left }
 
--- a run that uses up its budget, and ends with this machine
-abbrev pub ends : List ℕ → Lent → List ℕ → ℕ → Lent → Run
-ends code given area budget after =
+-- a run that uses up its budget, and ends with this machine and these data
+abbrev pub ends : List ℕ → Lent → List ℕ → ℕ → Lent → List ℕ → Run
+ends code given area budget after left =
     record {
       code = code;
       given = given;
       area = area;
       budget = budget;
       back = record { machine = after; steps = budget; number = 0; address = after .eip };
+      left = left;
     }
 
--- a run that is stopped after so many steps, with a number at an address, and then has this machine
-abbrev pub stops : List ℕ → Lent → List ℕ → ℕ → Lent → ℕ → ℕ → ℕ → Run
-stops code given area budget after steps number address =
+-- a run that is stopped after so many steps, with a number at an address, and then has this machine and these data
+abbrev pub stops : List ℕ → Lent → List ℕ → ℕ → Lent → List ℕ → ℕ → ℕ → ℕ → Run
+stops code given area budget after left steps number address =
     record {
       code = code;
       given = given;
       area = area;
       budget = budget;
       back = record { machine = after; steps = steps; number = number; address = address };
+      left = left;
     }
 
 -- a run of one step, with no data
 abbrev pub step : List ℕ → Lent → Lent → Run
-step code given after = ends code given [] 1 after
+step code given after = ends code given [] 1 after []
 
 -- a divide error in the first step: number 7 at EIP, and the machine as it was
 abbrev pub fault : List ℕ → Lent → Run
-fault code given = stops code given [] 1 given 0 7 (given .eip)
+fault code given = stops code given [] 1 given [] 0 7 (given .eip)
 
 -- the code's first step changes only EIP, whatever the registers and the flags are
 unfoldable pub Keeps : List ℕ → Type 0

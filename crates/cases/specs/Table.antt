@@ -1,13 +1,12 @@
 -- Document 01's cases, both sides of each edge, as one table: those that it marks to be proved, 1 to 9, 13 and 14, and 10 to 12 besides.
 -- Assumes nothing.
 use mathlib.Core.List.{List, [], _∷_, _++_, map}
-use Prim.Native.Nat.{ℕ, _+_}
-use lib.ListN.{replicate}
+use Prim.Native.Nat.{ℕ, zero, suc, _+_, _-_, _*_}
+use lib.ListN.{take, replicate}
 use Rattle.grammar.specs.Cases.{case13}
 use Rattle.blockcheck.specs.Blocks.{codeBase}
 use Rattle.blockcheck.specs.Cases.{case-14}
 use Rattle.run.specs.declared.Lent.{Lent}
-use Rattle.run.specs.Runs.{runOf}
 use Rattle.cases.specs.Lines.{ends, stops, step, fault, Case, run, keeps, bytes, block}
 
 -- a machine at an offset of the code, by EAX, ECX, EDX and the flags word; the other registers are 0
@@ -31,6 +30,19 @@ start = pointing 0 0 25 0x0010_0000 0x0010_0100
 -- the same after 10 rounds: EIP 00010000h, ECX 15, ESI 00100028h
 abbrev pub midway : Lent
 midway = pointing 0 0 15 0x0010_0028 0x0010_0128
+
+-- so many bytes, each one more than the one before
+abbrev pub upward : ℕ → ℕ → List ℕ
+upward zero b = []
+upward (suc n) b = b ∷ upward n (suc b)
+
+-- the 25 doublewords to move: the bytes 1 to 100
+abbrev pub readings : List ℕ
+readings = upward 100 1
+
+-- data of a size, when so many of these words were moved: all of them at 00100000h, the moved ones at 00100100h, and EEh elsewhere
+abbrev pub moved : ℕ → ℕ → List ℕ
+moved words size = readings ++ replicate 156 0xEE ++ take (4 * words) readings ++ replicate (size - (256 + 4 * words)) 0xEE
 
 -- 8 data bytes
 abbrev pub eight : List ℕ
@@ -59,15 +71,15 @@ cases-1-to-12 =
     -- 9. 8D 04 8D 10 00 00 00, ECX = C0000001h: EAX 14h
     ∷ run
     (step (0x8D ∷ 0x04 ∷ 0x8D ∷ 0x10 ∷ 0x00 ∷ 0x00 ∷ 0x00 ∷ []) (at 0 0 0xC000_0001 0 0x0002) (at 7 0x14 0xC000_0001 0 0x0002))
-    -- 10. F3 A5 from there, 512 data bytes. Budget 10: number 0. Then budget 15: ECX 0, EIP 00010002h, EDI 00100164h
-    ∷ run (ends moves start (replicate 512 0) 10 midway)
-    ∷ run (ends moves midway (runOf moves start (replicate 512 0) 10 .area) 15 (pointing 2 0 0 0x0010_0064 0x0010_0164))
-    -- 11. The same with 352 data bytes, budget 100: 24 steps, number 6 at 00100160h, ECX 1
-    ∷ run (stops moves start (replicate 352 0) 100 (pointing 0 0 1 0x0010_0060 0x0010_0160) 24 6 0x0010_0160)
+    -- 10. F3 A5 from there, 512 data bytes. Budget 10: number 0, 10 moved. Then budget 15: ECX 0, EIP 00010002h, EDI 00100164h, all 25 moved
+    ∷ run (ends moves start (moved 0 512) 10 midway (moved 10 512))
+    ∷ run (ends moves midway (moved 10 512) 15 (pointing 2 0 0 0x0010_0064 0x0010_0164) (moved 25 512))
+    -- 11. The same with 352 data bytes, budget 100: 24 steps, number 6 at 00100160h, ECX 1, the 24 moved that fit
+    ∷ run (stops moves start (moved 0 352) 100 (pointing 0 0 1 0x0010_0060 0x0010_0160) (moved 24 352) 24 6 0x0010_0160)
     -- 12. 8B 06, 8 data bytes: ESI = 00100004h reads; 00100005h gives 5 at 00100005h
-    ∷ run (ends (0x8B ∷ 0x06 ∷ []) (pointing 0 0 0 0x0010_0004 0) eight 1 (pointing 2 0x8877_6655 0 0x0010_0004 0))
+    ∷ run (ends (0x8B ∷ 0x06 ∷ []) (pointing 0 0 0 0x0010_0004 0) eight 1 (pointing 2 0x8877_6655 0 0x0010_0004 0) eight)
     ∷ run
-    (stops (0x8B ∷ 0x06 ∷ []) (pointing 0 0 0 0x0010_0005 0) eight 1 (pointing 0 0 0 0x0010_0005 0) 0 5 0x0010_0005)
+    (stops (0x8B ∷ 0x06 ∷ []) (pointing 0 0 0 0x0010_0005 0) eight 1 (pointing 0 0 0 0x0010_0005 0) eight 0 5 0x0010_0005)
     ∷ []
 
 -- the whole table

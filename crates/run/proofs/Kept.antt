@@ -1,4 +1,4 @@
--- A step keeps the data's length, and so does a run. Assumes nothing.
+-- A step keeps the number of registers and the data's length, and so does a run. Assumes nothing.
 use mathlib.Core.Path.{_≡_, refl, _∙_}
 use mathlib.Core.Bool.{Bool, true, false, cond}
 use mathlib.Core.List.{List}
@@ -10,40 +10,47 @@ use Rattle.grammar.specs.Decoding.{decodeOf}
 use Rattle.grammar.specs.declared.decode.Found.{Found}
 use Rattle.blockcheck.specs.Blocks.{codeBase}
 use Rattle.plan.specs.Plans.{planOf}
+use Rattle.effect.proofs.Ways.{regs-kept}
+use Rattle.run.specs.declared.Lent.{Lent}
 use Rattle.run.specs.Steps.{Moved, next, stop, home, inside, executed, stepOf}
 use Rattle.run.proofs.Planned.{Comes, goes-on, planned-comes}
-use Rattle.run.specs.Runs.{Ended, onMoved, runFrom}
+use Rattle.run.specs.Runs.{Ended, onMoved, runFrom, refusal, opened, closed, taken, refused, runOf}
 
--- the data that a step moves to are as long
-pub data Keeps (d : List ℕ) : Moved → Type 0 where
-  moves : {m : Machine} {d′ : List ℕ} → length d′ ≡ length d → Keeps d (next m d′)
-  stops : {n a : ℕ} → Keeps d (stop n a)
+-- a machine has as many registers as another, and its data are as long as the other's
+pub record Kept (m : Machine) (d : List ℕ) (m′ : Machine) (d′ : List ℕ) : Type 0 where
+  pub registers : length (m′ .regs) ≡ length (m .regs)
+  pub long : length d′ ≡ length d
 
-either : (d : List ℕ) (b : Bool) {x y : Moved} → Keeps d x → Keeps d y → Keeps d (cond b x y)
-either d true p q = p
-either d false p q = q
+-- so it is with what a step moves to
+pub data Keeps (m : Machine) (d : List ℕ) : Moved → Type 0 where
+  moves : {m′ : Machine} {d′ : List ℕ} → Kept m d m′ d′ → Keeps m d (next m′ d′)
+  stops : {n a : ℕ} → Keeps m d (stop n a)
 
-executed-keeps : (f : Found) (m : Machine) (d : List ℕ) → Keeps d (executed f m d)
+either : (m : Machine) (d : List ℕ) (b : Bool) {x y : Moved} → Keeps m d x → Keeps m d y → Keeps m d (cond b x y)
+either m d true p q = p
+either m d false p q = q
+
+executed-keeps : (f : Found) (m : Machine) (d : List ℕ) → Keeps m d (executed f m d)
 unfolding executed
 executed-keeps (Found.Instruction i) m d = from (planned-comes (planOf m i) m d)
   where
-    from : {v : Moved} → Comes (planOf m i) m d v → Keeps d v
-    from (goes-on r s l) = moves l
+    from : {v : Moved} → Comes (planOf m i) m d v → Keeps m d v
+    from (goes-on r s l) = moves (record { registers = regs-kept ((planOf m i) .operation) m (planOf m i) r s; long = l })
     from (Comes.stops n low high) = stops
 executed-keeps Found.Cut m d = stops
 executed-keeps Found.Unknown m d = stops
 
--- the data that a step leaves are as long
-pub step-keeps : (code : List ℕ) (m : Machine) (d : List ℕ) → Keeps d (stepOf code m d)
+-- a step keeps both
+pub step-keeps : (code : List ℕ) (m : Machine) (d : List ℕ) → Keeps m d (stepOf code m d)
 unfolding stepOf
 step-keeps code m d =
-    either d (eqb (m .eip) home) stops
-    (either d (inside code (m .eip)) (executed-keeps (decodeOf code (m .eip - codeBase)) m d) stops)
+    either m d (eqb (m .eip) home) stops
+    (either m d (inside code (m .eip)) (executed-keeps (decodeOf code (m .eip - codeBase)) m d) stops)
 
--- and so are those that a run leaves
-pub run-keeps : (code : List ℕ) (b : ℕ) (m : Machine) (d : List ℕ) (k : ℕ) → length ((runFrom code b m d k) .area) ≡ length d
+-- and so do the steps of a run
+pub run-keeps : (code : List ℕ) (b : ℕ) (m : Machine) (d : List ℕ) (k : ℕ) → Kept m d ((runFrom code b m d k) .machine) ((runFrom code b m d k) .area)
 unfolding runFrom onMoved
-run-keeps code zero m d k = refl
+run-keeps code zero m d k = record { registers = refl; long = refl }
 run-keeps code (suc b) m d k = by (stepOf code m d) (step-keeps code m d) (λ m′ d′. run-keeps code b m′ d′ (suc k))
   where
     go : Machine → List ℕ → Ended
@@ -52,7 +59,17 @@ run-keeps code (suc b) m d k = by (stepOf code m d) (step-keeps code m d) (λ m�
     end : ℕ → ℕ → Ended
     end n a = record { machine = m; area = d; steps = k; number = n; address = a }
 
-    by : (v : Moved) → Keeps d v → ((m′ : Machine) (d′ : List ℕ) → length ((go m′ d′) .area) ≡ length d′)
-        → length ((onMoved v go end) .area) ≡ length d
-    by (next m′ d′) (moves kept) after = after m′ d′ ∙ kept
-    by (stop n a) stops after = refl
+    by : (v : Moved) → Keeps m d v → ((m′ : Machine) (d′ : List ℕ) → Kept m′ d′ ((go m′ d′) .machine) ((go m′ d′) .area))
+        → Kept m d ((onMoved v go end) .machine) ((onMoved v go end) .area)
+    by (next m′ d′) (moves kept) after =
+        record { registers = (after m′ d′) .registers ∙ kept .registers; long = (after m′ d′) .long ∙ kept .long }
+    by (stop n a) stops after = record { registers = refl; long = refl }
+
+-- a run hands back as many registers as it was lent
+pub registers-kept : (code : List ℕ) (l : Lent) (d : List ℕ) (b : ℕ) → length ((runOf code l d b) .ran .machine .regs) ≡ length (l .regs)
+unfolding runOf taken refused opened closed
+registers-kept code l d b = by (eqb (refusal (length code) (length d) (l .word) b) 0)
+  where
+    by : (t : Bool) → length ((cond t (taken (runFrom code b (opened l) d 0)) (refused l d (refusal (length code) (length d) (l .word) b))) .ran .machine .regs) ≡ length (l .regs)
+    by true = (run-keeps code b (opened l) d 0) .registers
+    by false = refl

@@ -132,7 +132,7 @@ module _ (code : List ℕ) (l : Lent) (d : List ℕ) (n m : ℕ) (some : 0 < m) 
   unfolding taken closed
   both-taken h =
       let e = first-end in
-      let long = run-keeps code n (opened l) d 0 in
+      let long = (run-keeps code n (opened l) d 0) .long in
       let passed : refusal (length code) (length (e .area)) (wordOf (e .machine .flags)) 0 ≡ 0
       = rw long (passing (length code) (length d) (l .word) (wordOf (e .machine .flags)) h (word-passes (e .machine .flags))) in
       rw (

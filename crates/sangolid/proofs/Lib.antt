@@ -2,3 +2,4 @@
 pub mod Bounds
 pub mod States
 pub mod Outcomes
+pub mod Pausing

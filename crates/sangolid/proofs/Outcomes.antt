@@ -27,12 +27,12 @@ checks-unique (judged p j) (judged q k) =
     (ap numberOf verdict, marks, ap (λ (v : Verdict). valueOf v ∷ []) verdict)
 
 -- so many elements from a place on, one by one
-abbrev listed : ℕ → ℕ → List ℕ → List ℕ
+abbrev pub listed : ℕ → ℕ → List ℕ → List ℕ
 listed zero k l = []
 listed (suc n) k l = getD l k 0 ∷ listed n (suc k) l
 
 -- they are that part of the list
-part-listed : (n k : ℕ) (l : List ℕ) → k + n ≤ length l → listed n k l ≡ take n (drop k l)
+pub part-listed : (n k : ℕ) (l : List ℕ) → k + n ≤ length l → listed n k l ≡ take n (drop k l)
 part-listed zero k l h = refl
 part-listed (suc n) k l h =
     rw (drop-cons l k 0 (omega arith)) (ap (λ (r : List ℕ). getD l k 0 ∷ r) (part-listed n (suc k) l (omega arith)))

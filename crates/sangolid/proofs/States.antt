@@ -42,10 +42,15 @@ unfolding stateOf
 handed state r e = sets-whole (stateOf r) state e
 
 module _ (state code d : List ℕ) (budget : ℕ) where
-  -- a state of another length: nothing is changed
+  -- a state of another length: 90, and nothing is changed
+  pub misfit-changes-nothing : (length state ≡ 12 → ⊥) → callOf state code d budget ≡ record { number = misfit; state = state; area = d }
+  unfolding callOf
+  misfit-changes-nothing wrong = rw (ne-eqb _ _ wrong)
+
+  -- so a call returns
   pub calls-misfit : (length state ≡ 12 → ⊥) → Calls (callOf state code d budget) 90 state d
-  unfolding callOf misfit
-  calls-misfit wrong = rw (ne-eqb _ _ wrong) (record { is = refl; state-left = refl; area-left = refl })
+  unfolding misfit
+  calls-misfit wrong = rw (misfit-changes-nothing wrong) (record { is = refl; state-left = refl; area-left = refl })
 
   -- the run's number, with the state written whole
   pub calls-run : length state ≡ 12 → {l : Lent} {r : Ran} {later after : List ℕ} → l ≡ lentOf state → Runs (runOf code l d budget) r after

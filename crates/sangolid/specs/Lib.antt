@@ -1,2 +1,3 @@
 -- The definitions of `sangolid`. Assumes nothing.
 pub mod Interface
+pub mod Pausing

@@ -1,0 +1,49 @@
+-- A pause changes nothing: a call with n, and one with m on what came back, end as one call with n + m does. Assumes nothing.
+use mathlib.Core.Path.{_≡_, ap, _∙_}
+use mathlib.Core.List.{List, [], _∷_, _++_}
+use Prim.Native.Nat.{ℕ, _+_, _<_, _≤_}
+use native.Mathlib.Omega.{arith}
+use lib.ListN.{length}
+use lib.Seq.{take-all}
+use borrow.Author.Tests.{eq-eqb}
+use Rattle.run.specs.declared.Lent.{Lent}
+use Rattle.run.specs.declared.Ran.{Ran}
+use Rattle.run.specs.Runs.{Outcome, runOf}
+use Rattle.run.proofs.Kept.{registers-kept}
+use Rattle.run.proofs.Law.{Joined, law}
+use Rattle.sangolid.specs.Interface.{lentOf, stateOf, called, callOf}
+use Rattle.sangolid.specs.Pausing.{again, Continues}
+use Rattle.sangolid.proofs.Outcomes.{listed, part-listed}
+
+-- a machine of eight registers, handed back, is lent again as it was
+lent-again : (r : Ran) → length (r .machine .regs) ≡ 8 → lentOf (stateOf r) ≡ r .machine
+unfolding lentOf stateOf
+lent-again r eight =
+    ap (λ (regs : List ℕ). record { regs = regs; eip = r .machine .eip; word = r .machine .word })
+    (part-listed 8 0 (r .machine .regs) (omega arith) ∙ take-all 8 (r .machine .regs) (omega arith))
+
+-- a call hands back eight registers
+eight-back : (state code d : List ℕ) (budget : ℕ) → length ((runOf code (lentOf state) d budget) .ran .machine .regs) ≡ 8
+unfolding lentOf
+eight-back state code d budget = registers-kept code (lentOf state) d budget
+
+-- runs that join are calls that continue
+continues : {first second whole : Outcome} → Joined first second whole → Continues (called first) (called second) (called whole)
+unfolding called stateOf
+continues joined =
+    record {
+      machine = ap (λ (l : Lent). listed 8 0 (l .regs) ++ (l .eip ∷ l .word ∷ [])) (joined .machine);
+      steps = joined .steps;
+      address = joined .address;
+      area = joined .area;
+      number = joined .number;
+    }
+
+-- m at least 1, n + m within the limit: a call with n, and again with m, as one with n + m; the states of another length are those of `misfit-changes-nothing`
+pub pause : (state code d : List ℕ) (n m : ℕ) → length state ≡ 12 → 0 < m → n + m ≤ 1_000_000
+    → Continues (callOf state code d n) (again (callOf state code d n) code m) (callOf state code d (n + m))
+unfolding callOf called stateOf again
+pause state code d n m twelve some small =
+    let first = runOf code (lentOf state) d n in
+    rw (eq-eqb _ _ twelve, lent-again (first .ran) (eight-back state code d n))
+    (continues (law code (lentOf state) d n m some small))

@@ -1,0 +1,18 @@
+-- A pause between two calls of a run: what they and one whole call come to. Assumes nothing.
+use mathlib.Core.Path.{_≡_}
+use mathlib.Core.List.{List}
+use Prim.Native.Nat.{ℕ, _+_}
+use lib.ListN.{take, getD}
+use Rattle.sangolid.specs.Interface.{Call, callOf}
+
+-- a further call, with the state and the data that one has left
+unfoldable pub again : Call → List ℕ → ℕ → Call
+again left code budget = callOf (left .state) code (left .area) budget
+
+-- the whole leaves the machine's ten words, the address and the data that the second leaves, and returns its number; the steps are those of both
+pub record Continues (first second whole : Call) : Type 0 where
+  pub machine : take 10 (whole .state) ≡ take 10 (second .state)
+  pub steps : getD (whole .state) 10 0 ≡ getD (first .state) 10 0 + getD (second .state) 10 0
+  pub address : getD (whole .state) 11 0 ≡ getD (second .state) 11 0
+  pub area : whole .area ≡ second .area
+  pub number : whole .number ≡ second .number
