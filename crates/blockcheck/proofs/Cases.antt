@@ -15,8 +15,8 @@ use Rattle.grammar.specs.Reading.{run, bytesThen}
 use Rattle.grammar.specs.Decoding.{tree, firstTree, opcodeTree, entryTree, accepts, operandTree, modrmTree, tailTree, found, answer, decodeOf}
 use Rattle.grammar.specs.Relative.{relativeOf}
 use Rattle.grammar.specs.declared.rule.Repeat.{Repeat}
-use Rattle.grammar.specs.declared.decode.Decoded.{Decoded}
-use Rattle.grammar.specs.declared.decode.Found.{Found}
+use Rattle.grammar.specs.declared.instruction.Decoded.{Decoded}
+use Rattle.grammar.specs.declared.instruction.Found.{Found}
 use Rattle.grammar.specs.declared.relative.Relative.{Relative}
 use Rattle.grammar.proofs.Answered.{decode-answers, found-standing}
 use Rattle.blockcheck.specs.Blocks.{startsFrom, codeBase, targetOf, Lands, Arrives, arrives, Lawful, Good, Astray, marked, Reached, Judged, cut-at, astray-at, accepted}

@@ -7,7 +7,7 @@ use native.Mathlib.Omega.{arith}
 use lib.ListN.{length, length-append}
 use Rattle.grammar.specs.Grammar.{Instruction, Cut, done, next}
 use Rattle.grammar.specs.Answers.{numbers, Begins, Answers, instruction}
-use Rattle.grammar.specs.declared.decode.Found.{Found}
+use Rattle.grammar.specs.declared.instruction.Found.{Found}
 use Rattle.grammar.proofs.Answered.{answers-unique, prefix-free, same-rest, instruction-some}
 use Rattle.blockcheck.specs.Blocks.{startsFrom, Lawful, Good, Astray}
 

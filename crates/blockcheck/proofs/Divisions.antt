@@ -8,8 +8,8 @@ use lib.Seq.{length-take-le, take-add, take-all}
 use Rattle.grammar.specs.Grammar.{Instruction, Cut, done, next}
 use Rattle.grammar.specs.Answers.{Begins, Prefix, Answers, cut, unknown}
 use Rattle.grammar.specs.Decoding.{decodeOf}
-use Rattle.grammar.specs.declared.decode.Decoded.{Decoded}
-use Rattle.grammar.specs.declared.decode.Found.{Found}
+use Rattle.grammar.specs.declared.instruction.Decoded.{Decoded}
+use Rattle.grammar.specs.declared.instruction.Found.{Found}
 use Rattle.grammar.proofs.Answered.{decode-answers, found-standing, found-inside}
 use Rattle.blockcheck.specs.Blocks.{startsFrom, marked, Reached}
 use Rattle.blockcheck.specs.Passes.{Divided, whole, cut-at, unknown-at}

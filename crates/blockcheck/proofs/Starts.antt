@@ -10,8 +10,8 @@ use Rattle.grammar.specs.Grammar.{Instruction, Cut, done, next}
 use Rattle.grammar.specs.Answers.{numbers}
 use Rattle.grammar.specs.Decoding.{decodeOf}
 use Rattle.grammar.specs.Relative.{relativeOf}
-use Rattle.grammar.specs.declared.decode.Decoded.{Decoded}
-use Rattle.grammar.specs.declared.decode.Found.{Found}
+use Rattle.grammar.specs.declared.instruction.Decoded.{Decoded}
+use Rattle.grammar.specs.declared.instruction.Found.{Found}
 use Rattle.grammar.specs.declared.relative.Relative.{Relative}
 use Rattle.grammar.proofs.Answered.{found-inside, instruction-found}
 use Rattle.blockcheck.specs.Blocks.{startsFrom, codeBase, targetOf, Lands, Arrives, Lawful, Good, Judged, accepted}

@@ -8,8 +8,8 @@ use Rattle.grammar.specs.Grammar.{Cut}
 use Rattle.grammar.specs.Answers.{Begins, Prefix}
 use Rattle.grammar.specs.Decoding.{decodeOf}
 use Rattle.grammar.specs.Relative.{relativeOf}
-use Rattle.grammar.specs.declared.decode.Decoded.{Decoded}
-use Rattle.grammar.specs.declared.decode.Found.{Found}
+use Rattle.grammar.specs.declared.instruction.Decoded.{Decoded}
+use Rattle.grammar.specs.declared.instruction.Found.{Found}
 use Rattle.blockcheck.specs.Blocks.{startsFrom, Arrives, Good, Astray, marked, Reached, Judged}
 use Rattle.blockcheck.specs.declared.Verdict.{Verdict}
 use Rattle.blockcheck.specs.declared.dividing.Division.{Division}

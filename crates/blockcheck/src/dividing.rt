@@ -1,6 +1,6 @@
 // The pass that cuts the code into instructions and marks their starts.
-use grammar::decode::Found;
-use grammar::decode::decode;
+use grammar::instruction::Found;
+use grammar::reader::read;
 ghost use mathlib.Core.Path.{_≡_};
 ghost use lib.ListN.{length, replicate};
 ghost use Rattle.blockcheck.specs.Passes.{Divided};
@@ -23,7 +23,7 @@ pub fn divide(code: &[u8], marks: &mut [u8]) -> Division
     let mut at = 0;
     let mut count = 0;
     while at < code.len() {
-        match decode(code, at) {
+        match read(code, at) {
             Found::Instruction(d) => {
                 marks[at] = 1;
                 at += d.length;

@@ -1,7 +1,7 @@
 // The pass that looks where the displacements lead.
-use grammar::decode::Decoded;
-use grammar::decode::Found;
-use grammar::decode::decode;
+use grammar::instruction::Decoded;
+use grammar::instruction::Found;
+use grammar::reader::read;
 use grammar::relative::Relative;
 use grammar::relative::relative_of;
 ghost use mathlib.Core.Path.{_≡_};
@@ -49,7 +49,7 @@ fn arrives(marks: &[u8], at: usize, d: Decoded) -> bool
 fn pass(code: &[u8], marks: &[u8], at: usize) -> usize
     ensures { λ r. ⌜ Passes (now (code .entry)) (now (marks .entry)) at r ⌝ }
 {
-    match decode(code, at) {
+    match read(code, at) {
         Found::Instruction(d) => {
             if arrives(marks, at, d) {
                 return d.length;

@@ -5,13 +5,13 @@ use mathlib.Core.List.{List, _++_}
 use Prim.Native.Nat.{ℕ, _+_, _<_, _≤_}
 use native.Mathlib.Omega.{arith}
 use lib.ListN.{length, take, drop, length-append, length-drop}
-use lib.Seq.{take-at}
+use lib.Seq.{take-at, length-take-le}
 use Rattle.grammar.specs.Grammar.{prefixBytes, Opcode, alone, after0F, opcodeBytes, operandBytes, Parts, Instruction, bytesOf}
-use Rattle.grammar.specs.Answers.{numbers, Begins, Prefix, Answers, instruction, cut, unknown}
+use Rattle.grammar.specs.Answers.{numbers, ownBytes, Begins, Prefix, Answers, instruction, cut, unknown}
 use Rattle.grammar.specs.Reading.{Outcome, whole, short, wrong, run}
 use Rattle.grammar.specs.Decoding.{tree, answer, found, decodeOf, Decodes}
-use Rattle.grammar.specs.declared.decode.Decoded.{Decoded}
-use Rattle.grammar.specs.declared.decode.Found.{Found}
+use Rattle.grammar.specs.declared.instruction.Decoded.{Decoded}
+use Rattle.grammar.specs.declared.instruction.Found.{Found}
 use Rattle.grammar.proofs.Trees.{spelled-run, run-spelled, spelled-short, short-spelled}
 use Rattle.grammar.proofs.Exact.{spells-tree, tree-spells}
 use Rattle.grammar.proofs.Endings.{live-tree}
@@ -147,6 +147,18 @@ standing d (unknown b p) e = absurd (let z : _≡_ {A = ℕ} 0 1 = cc in omega a
 -- the instruction that decode finds
 pub found-standing : (code : List ℕ) (at : ℕ) (d : Decoded) → decodeOf code at ≡ Found.Instruction d → Standing (drop at code) d
 found-standing code at d e = standing d (decode-answers code at) e
+
+-- its own bytes are those of the grammar's instruction
+pub own-exactly : {bytes : List ℕ} (i : Begins bytes) → ownBytes (numbers (i .instruction .parts)) bytes ≡ i .own
+unfolding ownBytes numbers
+own-exactly i =
+    ap (take (length (bytesOf (i .instruction .parts)))) (sym (i .joined))
+    ∙ take-at (i .own) (i .rest) (length (bytesOf (i .instruction .parts))) (ap length (sym (i .instruction .joined)))
+
+-- they are as many as its length says
+pub own-length : (code : List ℕ) (at : ℕ) (d : Decoded) → decodeOf code at ≡ Found.Instruction d → length (ownBytes d (drop at code)) ≡ d .length
+unfolding ownBytes
+own-length code at d e = length-take-le (d .length) (drop at code) (found-standing code at d e .inside)
 
 -- it lies inside the code
 pub found-inside : (code : List ℕ) (at : ℕ) (d : Decoded) → decodeOf code at ≡ Found.Instruction d → at + d .length ≤ length code

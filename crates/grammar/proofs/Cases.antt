@@ -15,7 +15,7 @@ use Rattle.grammar.specs.Answers.{displaced}
 use Rattle.grammar.specs.Reading.{run, bytesThen}
 use Rattle.grammar.specs.Decoding.{tailTree, addressTree, modrmTree, operandTree, accepts, entryTree, opcodeTree, some, acceptsEntry, escapes, escapeTree, firstTree, sizeTree, repeatTree, tree, answer, found, decodeOf}
 use Rattle.grammar.specs.Cases.{Verdict, cut, unknown, one, Case, Holds, All, case13}
-use Rattle.grammar.specs.declared.decode.Found.{Found}
+use Rattle.grammar.specs.declared.instruction.Found.{Found}
 use Rattle.grammar.proofs.Below.{both-left, both-right}
 use Rattle.grammar.proofs.Answered.{decode-answers, found-standing}
 

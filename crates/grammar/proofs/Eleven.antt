@@ -17,8 +17,8 @@ use Rattle.grammar.specs.declared.rule.Immediate.{Immediate}
 use Rattle.grammar.specs.declared.rule.Repeat.{Repeat}
 use Rattle.grammar.specs.declared.rule.Rule.{Rule}
 use Rattle.grammar.specs.declared.rule.Entry.{Entry}
-use Rattle.grammar.specs.declared.decode.Decoded.{Decoded}
-use Rattle.grammar.specs.declared.decode.Found.{Found}
+use Rattle.grammar.specs.declared.instruction.Decoded.{Decoded}
+use Rattle.grammar.specs.declared.instruction.Found.{Found}
 use Rattle.grammar.proofs.Below.{every, below, both-hold}
 use Rattle.grammar.proofs.Counts.{displacement-count}
 use Rattle.grammar.proofs.Operands.{bytes-length, sib-length, allows-has}

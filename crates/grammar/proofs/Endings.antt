@@ -16,7 +16,7 @@ use Rattle.grammar.specs.declared.rule.Immediate.{Immediate}
 use Rattle.grammar.specs.declared.rule.Repeat.{Repeat}
 use Rattle.grammar.specs.declared.rule.Rule.{Rule}
 use Rattle.grammar.specs.declared.rule.Entry.{Entry}
-use Rattle.grammar.specs.declared.decode.Decoded.{Decoded}
+use Rattle.grammar.specs.declared.instruction.Decoded.{Decoded}
 use Rattle.grammar.proofs.Below.{both-hold, both-right-held, some-number}
 use Rattle.grammar.proofs.Trees.{Ends, Live, here, read, nowhere, ends-then, live-then}
 use Rattle.grammar.proofs.Escapes.{opcodes-accept}

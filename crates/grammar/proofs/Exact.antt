@@ -19,7 +19,7 @@ use Rattle.grammar.specs.declared.rule.Prefix66.{Prefix66}
 use Rattle.grammar.specs.declared.rule.Repeat.{Repeat}
 use Rattle.grammar.specs.declared.rule.Rule.{Rule}
 use Rattle.grammar.specs.declared.rule.Entry.{Entry}
-use Rattle.grammar.specs.declared.decode.Decoded.{Decoded}
+use Rattle.grammar.specs.declared.instruction.Decoded.{Decoded}
 use Rattle.grammar.proofs.Trees.{Spells, spells-no, read, spells-yes, pick-spells, none-spells, held}
 use Rattle.grammar.proofs.Operands.{operand-spells, spells-operand, gathered}
 use Rattle.grammar.proofs.Unlisted.{unlisted-0F, unlisted-66, unlisted-F2, unlisted-F3}

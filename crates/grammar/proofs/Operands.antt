@@ -15,7 +15,7 @@ use Rattle.grammar.specs.Reading.{done, none, bytesThen}
 use Rattle.grammar.specs.Decoding.{opened, withModrm, withSib, closed, ended, tailTree, addressTree, modrmTree, hasModrm, operandTree}
 use Rattle.grammar.specs.declared.rule.ModRM.{ModRM}
 use Rattle.grammar.specs.declared.rule.Rule.{Rule}
-use Rattle.grammar.specs.declared.decode.Decoded.{Decoded}
+use Rattle.grammar.specs.declared.instruction.Decoded.{Decoded}
 use Rattle.grammar.proofs.Trees.{Spells, here, read, spells-then, then-spells, spells-yes, spells-no, pick-spells, held, done-spells}
 use Rattle.grammar.proofs.Below.{both-hold, both-left-held, both-right-held}
 

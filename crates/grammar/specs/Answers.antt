@@ -4,12 +4,12 @@ use mathlib.Core.Path.{_≡_}
 use mathlib.Core.List.{List, [], _∷_, _++_}
 use Prim.Native.Nat.{ℕ, _+_}
 use lib.Dec.{ltb}
-use lib.ListN.{length, getD}
+use lib.ListN.{length, getD, take}
 use Rattle.width.specs.LittleEndian.{littleEndian}
 use Rattle.grammar.specs.Choice.{pick}
 use Rattle.grammar.specs.Grammar.{Operand, absent, addressed, Parts, Instruction, bytesOf, numberOf, narrowOf, repeatIn}
-use Rattle.grammar.specs.declared.decode.Decoded.{Decoded}
-use Rattle.grammar.specs.declared.decode.Found.{Found}
+use Rattle.grammar.specs.declared.instruction.Decoded.{Decoded}
+use Rattle.grammar.specs.declared.instruction.Found.{Found}
 
 -- a displacement as a 32-bit number: one byte is extended by sign
 unfoldable pub displaced : List ℕ → ℕ
@@ -43,6 +43,10 @@ numbers p =
       displacement = displacementOf (p .operand);
       immediate = littleEndian (p .immediate);
     }
+
+-- a decoded instruction's own bytes, among those from its place on
+unfoldable pub ownBytes : Decoded → List ℕ → List ℕ
+ownBytes d bytes = take (d .length) bytes
 
 -- the bytes begin with an instruction
 pub record Begins (bytes : List ℕ) : Type 0 where

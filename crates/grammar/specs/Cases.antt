@@ -4,7 +4,7 @@ use mathlib.Core.List.{List, [], _∷_}
 use Prim.Native.Nat.{ℕ}
 use Rattle.grammar.specs.Grammar.{Instruction}
 use Rattle.grammar.specs.Answers.{Answers}
-use Rattle.grammar.specs.declared.decode.Found.{Found}
+use Rattle.grammar.specs.declared.instruction.Found.{Found}
 
 -- what document 01 says of some bytes
 pub data Verdict : Type 0 where

@@ -5,7 +5,7 @@ use mathlib.Core.Bool.{Bool, true, false}
 use mathlib.Core.List.{List, [], _∷_}
 use Prim.Native.Nat.{ℕ, zero, suc, _+_, _≤_}
 use lib.Dec.{eqb}
-use lib.ListN.{length, getD, take, drop}
+use lib.ListN.{length, getD, drop}
 use Rattle.grammar.specs.Choice.{pick, both, either}
 use Rattle.grammar.specs.Opcodes.{ruleOf}
 use Rattle.grammar.specs.Grammar.{regOf, sibLength, displacementLength, immediateLength, allows, allows66, allowsRepeat}
@@ -17,8 +17,8 @@ use Rattle.grammar.specs.declared.rule.Immediate.{Immediate}
 use Rattle.grammar.specs.declared.rule.Repeat.{Repeat}
 use Rattle.grammar.specs.declared.rule.Rule.{Rule}
 use Rattle.grammar.specs.declared.rule.Entry.{Entry}
-use Rattle.grammar.specs.declared.decode.Decoded.{Decoded}
-use Rattle.grammar.specs.declared.decode.Found.{Found}
+use Rattle.grammar.specs.declared.instruction.Decoded.{Decoded}
+use Rattle.grammar.specs.declared.instruction.Found.{Found}
 use Rattle.grammar.specs.declared.decode.Prefixes.{Prefixes}
 use Rattle.grammar.specs.declared.decode.Named.{Named}
 
@@ -208,9 +208,3 @@ decodeOf bytes at = found tree bytes at
 pub record Decodes (code : List ℕ) (at : ℕ) (r : Found) : Type 0 where
   pub is : r ≡ decodeOf code at
   pub answers : Answers (drop at code) r
-
--- an instruction's own bytes among those at its place; none where no whole instruction stands
-unfoldable pub ownBytes : Found → List ℕ → List ℕ
-ownBytes (Found.Instruction d) bytes = take (d .length) bytes
-ownBytes Found.Cut bytes = []
-ownBytes Found.Unknown bytes = []

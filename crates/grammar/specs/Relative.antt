@@ -6,7 +6,7 @@ use Rattle.grammar.specs.Opcodes.{ruleOf}
 use Rattle.grammar.specs.Answers.{displaced}
 use Rattle.grammar.specs.declared.rule.Immediate.{Immediate}
 use Rattle.grammar.specs.declared.rule.Entry.{Entry}
-use Rattle.grammar.specs.declared.decode.Decoded.{Decoded}
+use Rattle.grammar.specs.declared.instruction.Decoded.{Decoded}
 use Rattle.grammar.specs.declared.relative.Relative.{Relative}
 
 -- rel8 is extended by sign to 32 bits; any other immediate is no displacement

@@ -1,6 +1,8 @@
 // What stands at a place of the code: a whole instruction, a cut one, or none.
 use crate::bytes::displacement_at;
 use crate::bytes::number_at;
+use crate::instruction::Decoded;
+use crate::instruction::Found;
 use crate::parts::allows_66;
 use crate::parts::allows_modrm;
 use crate::parts::allows_repeat;
@@ -16,7 +18,7 @@ use crate::rule::Rule;
 use crate::table::look_up;
 ghost use mathlib.Core.Path.{_≡_};
 ghost use Prim.Native.Nat.{_+_, _≤_, _<_};
-ghost use lib.ListN.{length, drop};
+ghost use lib.ListN.{length};
 ghost use Rattle.grammar.specs.Reading.{byte};
 ghost use Rattle.grammar.specs.Decoding.{
   Count,
@@ -35,36 +37,8 @@ ghost use Rattle.grammar.specs.Decoding.{
   prefixesOf,
   Prefixed,
   Names,
-  decodeOf,
   Decodes,
-  ownBytes,
 };
-
-// A whole instruction in numbers. A part that it does not have is 0.
-pub struct Decoded {
-    pub length: usize,
-    // 00 to FF alone, 100 to 1FF after 0F.
-    pub opcode: usize,
-    // Whether 66 stands before the opcode.
-    pub narrow: bool,
-    // Which of F2 and F3 stands before the opcode.
-    pub repeat: Repeat,
-    pub modrm: u8,
-    pub sib: u8,
-    // One byte is extended by sign to 32 bits.
-    pub displacement: u32,
-    // As many bytes as the opcode's rule says.
-    pub immediate: u32,
-}
-
-// What stands at a place of the code.
-pub enum Found {
-    Instruction(Decoded),
-    // The bytes to the code's end are a proper prefix of some instruction.
-    Cut,
-    // No instruction begins so.
-    Unknown,
-}
 
 // What stands before an opcode: so many bytes, 66 among them or not, and which of F2 and F3.
 struct Prefixes {
@@ -305,19 +279,5 @@ pub fn decode(code: &[u8], at: usize) -> Found
         Named::Opcode { read, number } => opcode(code, at, read, p.narrow, repeat, number),
         Named::Cut => Found::Cut,
         Named::Unknown => Found::Unknown,
-    }
-}
-
-// The bytes of the instruction at a place, as a part of the code; none where no whole instruction stands there.
-pub fn own_bytes(code: &[u8], at: usize) -> &[u8]
-    ensures { λ r. ⌜ now r ≡ ownBytes (decodeOf (now (code .entry)) at) (drop at (now (code .entry))) ⌝ }
-{
-    match decode(code, at) {
-        Found::Instruction(d) => {
-            let end = at + d.length;
-            &code[at..end]
-        }
-        Found::Cut => &code[..0],
-        Found::Unknown => &code[..0],
     }
 }

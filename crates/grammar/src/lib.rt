@@ -1,6 +1,7 @@
 // The instructions that document 01 lists: the table of opcodes, what stands at a place of the code, an instruction's own bytes.
 mod bytes;
-pub mod decode;
+mod decode;
+pub mod instruction;
 mod parts;
 pub mod reader;
 pub mod relative;

@@ -1,6 +1,6 @@
 // Jumps, calls and loops: the displacement that their immediate is.
 use crate::bytes::extended;
-use crate::decode::Decoded;
+use crate::instruction::Decoded;
 use crate::rule::Immediate;
 use crate::table::immediate_kind;
 ghost use mathlib.Core.Path.{_≡_};

@@ -4,8 +4,8 @@ use mathlib.Core.List.{List, [], _++_}
 use Prim.Native.Nat.{ℕ, zero, suc, _+_, _-_, _<_, _≤_}
 use native.Mathlib.Omega.{arith}
 use Rattle.grammar.specs.Decoding.{decodeOf}
-use Rattle.grammar.specs.declared.decode.Decoded.{Decoded}
-use Rattle.grammar.specs.declared.decode.Found.{Found}
+use Rattle.grammar.specs.declared.instruction.Decoded.{Decoded}
+use Rattle.grammar.specs.declared.instruction.Found.{Found}
 use Rattle.text.specs.Written.{Wrote}
 use Rattle.text.proofs.Writing.{wrote-none, wrote-both}
 use Rattle.listing_text.specs.Listing.{lineOf, lineThen, linesFrom}
@@ -30,12 +30,12 @@ none-unknown code (suc n) i e = rw e
 
 -- an instruction stands here
 pub one-more : (code : List ℕ) (n i : ℕ) (d : Decoded) → 0 < n → decodeOf code i ≡ Found.Instruction d
-    → linesFrom code n i ≡ lineOf i d ++ linesFrom code (n - 1) (i + d .length)
+    → linesFrom code n i ≡ lineOf i (d .length) (d .opcode) ++ linesFrom code (n - 1) (i + d .length)
 unfolding linesFrom lineThen
 one-more code zero i d h e = absurd (omega arith)
 one-more code (suc n) i d h e =
     let same : n ≡ suc n - 1 = omega arith in
-    rw e (ap (λ (k : ℕ). lineOf i d ++ linesFrom code k (i + d .length)) same)
+    rw e (ap (λ (k : ℕ). lineOf i (d .length) (d .opcode) ++ linesFrom code k (i + d .length)) same)
 
 -- the lines still to come, written at the next place, complete the lines of the code
 pub record Completes (code : List ℕ) (count : ℕ) (out₀ : List ℕ) (at : ℕ) (out : List ℕ) (next offset left : ℕ) : Type 0 where
@@ -45,12 +45,12 @@ pub record Completes (code : List ℕ) (count : ℕ) (out₀ : List ℕ) (at : �
 pub begins : (code : List ℕ) (count : ℕ) (out : List ℕ) (at : ℕ) → Completes code count out at out at 0 count
 begins code count out at = record { whole = λ w. w }
 
--- with a line more
-pub goes : {code out₀ out out′ : List ℕ} {count at next next′ offset left : ℕ} (d : Decoded) → Completes code count out₀ at out next offset left
-    → 0 < left → decodeOf code offset ≡ Found.Instruction d → Wrote out next (lineOf offset d) next′ out′
-    → Completes code count out₀ at out′ next′ (offset + d .length) (left - 1)
-goes {code} {offset} {left} d so-far h e line =
-    record { whole = λ w. so-far .whole (rw (one-more code left offset d h e) (wrote-both line w)) }
+-- with a line more, of as many bytes as the instruction has
+pub goes : {code out₀ out out′ : List ℕ} {count at next next′ offset left size : ℕ} (d : Decoded) → Completes code count out₀ at out next offset left
+    → 0 < left → decodeOf code offset ≡ Found.Instruction d → size ≡ d .length → Wrote out next (lineOf offset size (d .opcode)) next′ out′
+    → Completes code count out₀ at out′ next′ (offset + size) (left - 1)
+goes {code} {offset} {left} d so-far h e sized line =
+    record { whole = λ w. so-far .whole (rw (one-more code left offset d h e, ← sized) (wrote-both line w)) }
 
 -- with no line left, the lines of the code are written
 pub ends : {code out₀ out : List ℕ} {count at next offset left : ℕ} → Completes code count out₀ at out next offset left

@@ -13,22 +13,7 @@ use Rattle.grammar.proofs.Answered.{instruction-found}
 use Rattle.blockcheck.proofs.Cuts.{same-length}
 use Rattle.text.specs.Digits.{hexadecimal}
 use Rattle.text.proofs.Numbers.{hexadecimal-byte}
-use Rattle.listing_text.specs.Listing.{tab, newline, field, opcodeText, lineOf, lineThen, linesFrom}
-
--- bytes in capital hex
-unfoldable pub hexBytes : List ℕ → List ℕ
-hexBytes [] = []
-hexBytes (b ∷ bytes) = hexadecimal 2 b ++ hexBytes bytes
-
--- an instruction's line: its offset and length in decimal, its opcode's bytes in capital hex
-unfoldable pub instructionLine : ℕ → (bytes : List ℕ) → Instruction bytes → List ℕ
-instructionLine i bytes instruction =
-    field i tab ++ field (length bytes) tab ++ hexBytes (opcodeBytes (instruction .parts .opcode)) ++ newline ∷ []
-
--- the lines of a cut's instructions, the first at offset i
-unfoldable pub cutLines : ℕ → {pieces : List (List ℕ)} {code : List ℕ} → Cut pieces code → List ℕ
-cutLines i done = []
-cutLines i (next {bytes} instruction later) = instructionLine i bytes instruction ++ cutLines (i + length bytes) later
+use Rattle.listing_text.specs.Listing.{tab, newline, field, opcodeText, lineOf, lineThen, linesFrom, hexBytes, instructionLine, cutLines}
 
 -- an opcode's text is its bytes in capital hex
 opcode-hex : (o : Opcode) → opcodeByte o < 256 → opcodeText (numberOf o) ≡ hexBytes (opcodeBytes o)
@@ -40,7 +25,7 @@ opcode-hex (after0F b) h =
     (ap (λ (l : List ℕ). hexadecimal 2 0x0F ++ l) (sym (append-nil (hexadecimal 2 b))))
 
 -- an instruction's line, by its numbers or by its bytes
-same-line : (i : ℕ) {bytes : List ℕ} (instruction : Instruction bytes) → lineOf i (numbers (instruction .parts)) ≡ instructionLine i bytes instruction
+same-line : (i : ℕ) {bytes : List ℕ} (instruction : Instruction bytes) → lineOf i ((numbers (instruction .parts)) .length) ((numbers (instruction .parts)) .opcode) ≡ instructionLine i bytes instruction
 unfolding lineOf instructionLine numbers
 same-line i instruction =
     rw (opcode-hex (instruction .parts .opcode) (instruction .built .opcode))

@@ -12,8 +12,8 @@ use Rattle.grammar.specs.Choice.{pick}
 use Rattle.grammar.specs.Grammar.{prefixBytes, Opcode, alone, after0F, opcodeByte, opcodeBytes, numberOf, operandBytes, Parts, bytesOf, Built, Instruction, Cut, done, next}
 use Rattle.grammar.specs.Answers.{numbers}
 use Rattle.grammar.specs.Decoding.{decodeOf}
-use Rattle.grammar.specs.declared.decode.Decoded.{Decoded}
-use Rattle.grammar.specs.declared.decode.Found.{Found}
+use Rattle.grammar.specs.declared.instruction.Decoded.{Decoded}
+use Rattle.grammar.specs.declared.instruction.Found.{Found}
 use Rattle.grammar.proofs.Answered.{Standing, found-standing, found-inside, instruction-some}
 use Rattle.blockcheck.specs.Blocks.{numberOf as refusalNumber, valueOf, Astray, Reached, Judged, bad-length, bad-marks, cut-at, unknown-at, astray-at, accepted}
 use Rattle.blockcheck.specs.declared.Verdict.{Verdict}
@@ -58,7 +58,7 @@ one-byte p built h = go (p .opcode) (built .opcode) h
     go (after0F b) small h = absurd (unfold opcodeBytes in omega (arith, simp length-append at h))
 
 -- a line has at most 12 bytes for each byte of its instruction
-line-short : (i : ℕ) (bytes : List ℕ) (d : Decoded) → i + d .length ≤ 65536 → Standing bytes d → length (lineOf i d) ≤ 12 * d .length
+line-short : (i : ℕ) (bytes : List ℕ) (d : Decoded) → i + d .length ≤ 65536 → Standing bytes d → length (lineOf i (d .length) (d .opcode)) ≤ 12 * d .length
 unfolding lineOf
 line-short i bytes d inside s =
     simp length-append

@@ -2,10 +2,11 @@
 use mathlib.Core.List.{List, [], _∷_, _++_}
 use Prim.Native.Nat.{ℕ, zero, suc, _+_, _%_}
 use lib.Dec.{ltb}
+use lib.ListN.{length}
 use Rattle.grammar.specs.Choice.{pick}
+use Rattle.grammar.specs.Grammar.{opcodeBytes, Instruction, Cut, done, next}
 use Rattle.grammar.specs.Decoding.{decodeOf}
-use Rattle.grammar.specs.declared.decode.Decoded.{Decoded}
-use Rattle.grammar.specs.declared.decode.Found.{Found}
+use Rattle.grammar.specs.declared.instruction.Found.{Found}
 use Rattle.blockcheck.specs.Blocks.{numberOf, valueOf, Judged}
 use Rattle.blockcheck.specs.declared.Verdict.{Verdict}
 use Rattle.blockcheck.specs.declared.Verdict.the-variants.{Accepted, BadLength, BadMarks, CutAt, UnknownAt, AstrayAt}
@@ -41,13 +42,13 @@ field n end = decimal n ++ end ∷ []
 unfoldable pub opcodeText : ℕ → List ℕ
 opcodeText k = pick (ltb k 0x100) (hexadecimal 2 k) (hexadecimal 4 (0x0F00 + k % 0x100))
 
--- an instruction's line: its offset, its length and its opcode
-unfoldable pub lineOf : ℕ → Decoded → List ℕ
-lineOf i d = field i tab ++ field (d .length) tab ++ opcodeText (d .opcode) ++ newline ∷ []
+-- an instruction's line: its offset, how many bytes it has, its opcode
+unfoldable pub lineOf : ℕ → ℕ → ℕ → List ℕ
+lineOf offset size opcode = field offset tab ++ field size tab ++ opcodeText opcode ++ newline ∷ []
 
 -- the line of an instruction found at offset i, and what follows it
 unfoldable pub lineThen : ℕ → Found → (ℕ → List ℕ) → List ℕ
-lineThen i (Found.Instruction d) later = lineOf i d ++ later (i + d .length)
+lineThen i (Found.Instruction d) later = lineOf i (d .length) (d .opcode) ++ later (i + d .length)
 lineThen i Found.Cut later = []
 lineThen i Found.Unknown later = []
 
@@ -55,6 +56,21 @@ lineThen i Found.Unknown later = []
 unfoldable pub linesFrom : List ℕ → ℕ → ℕ → List ℕ
 linesFrom code zero i = []
 linesFrom code (suc n) i = lineThen i (decodeOf code i) (linesFrom code n)
+
+-- bytes in capital hex
+unfoldable pub hexBytes : List ℕ → List ℕ
+hexBytes [] = []
+hexBytes (b ∷ bytes) = hexadecimal 2 b ++ hexBytes bytes
+
+-- by the grammar, an instruction's line: its offset and length in decimal, its opcode's bytes in capital hex
+unfoldable pub instructionLine : ℕ → (bytes : List ℕ) → Instruction bytes → List ℕ
+instructionLine i bytes instruction =
+    field i tab ++ field (length bytes) tab ++ hexBytes (opcodeBytes (instruction .parts .opcode)) ++ newline ∷ []
+
+-- the lines of a cut's instructions, the first at offset i
+unfoldable pub cutLines : ℕ → {pieces : List (List ℕ)} {code : List ℕ} → Cut pieces code → List ℕ
+cutLines i done = []
+cutLines i (next {bytes} instruction later) = instructionLine i bytes instruction ++ cutLines (i + length bytes) later
 
 -- the line of a refused block: the number and the offset
 unfoldable pub refusal : Verdict → List ℕ

@@ -1,7 +1,7 @@
 // A line for each instruction of a block.
-use grammar::decode::Decoded;
-use grammar::decode::Found;
-use grammar::decode::decode;
+use grammar::instruction::Found;
+use grammar::reader::own_bytes;
+use grammar::reader::read;
 use text::put_byte;
 use text::put_decimal;
 use text::put_hex;
@@ -27,13 +27,13 @@ fn put_opcode(out: &mut [u8], at: usize, opcode: usize) -> usize
     put_hex(out, at, 4, 0x0F00 + k % 0x100)
 }
 
-// The line of an instruction at an offset.
-fn put_line(out: &mut [u8], at: usize, offset: usize, instruction: Decoded) -> usize
-    ensures { λ r. ⌜ Wrote (now (out .entry)) at (lineOf offset instruction) r (now (out .exit)) ⌝ }
+// The line of an instruction: its offset, how many bytes it has, its opcode.
+fn put_line(out: &mut [u8], at: usize, offset: usize, size: usize, opcode: usize) -> usize
+    ensures { λ r. ⌜ Wrote (now (out .entry)) at (lineOf offset size opcode) r (now (out .exit)) ⌝ }
 {
     let past_offset = put_field(out, at, offset, b'\t');
-    let past_length = put_field(out, past_offset, instruction.length, b'\t');
-    let past_opcode = put_opcode(out, past_length, instruction.opcode);
+    let past_size = put_field(out, past_offset, size, b'\t');
+    let past_opcode = put_opcode(out, past_size, opcode);
     put_byte(out, past_opcode, b'\n')
 }
 
@@ -45,10 +45,11 @@ pub fn put_lines(code: &[u8], count: usize, out: &mut [u8], at: usize) -> usize
     let mut offset = 0;
     let mut left = count;
     while left > 0 {
-        match decode(code, offset) {
+        match read(code, offset) {
             Found::Instruction(instruction) => {
-                next = put_line(out, next, offset, instruction);
-                offset += instruction.length;
+                let own = own_bytes(code, offset, instruction);
+                next = put_line(out, next, offset, own.len(), instruction.opcode);
+                offset += own.len();
                 left -= 1;
             }
             Found::Cut => return next,

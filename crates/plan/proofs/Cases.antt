@@ -7,7 +7,7 @@ use Rattle.width.specs.Numbers.{residue, rest}
 use Rattle.flags.specs.Word.{flagsOf}
 use Rattle.machine.specs.declared.registers.Machine.{Machine}
 use Rattle.machine.specs.Registers.{register}
-use Rattle.grammar.specs.declared.decode.Decoded.{Decoded}
+use Rattle.grammar.specs.declared.instruction.Decoded.{Decoded}
 use Rattle.grammar.specs.declared.rule.Repeat.{Repeat}
 use Rattle.plan.specs.Addresses.{scaledIndex, baseRegister, addressBase, effectiveAddress}
 

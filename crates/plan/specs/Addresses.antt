@@ -7,7 +7,7 @@ use Rattle.width.specs.declared.Size.the-variants.{Dword}
 use Rattle.width.specs.Numbers.{rest}
 use Rattle.machine.specs.declared.registers.Machine.{Machine}
 use Rattle.machine.specs.Registers.{register}
-use Rattle.grammar.specs.declared.decode.Decoded.{Decoded}
+use Rattle.grammar.specs.declared.instruction.Decoded.{Decoded}
 use Rattle.grammar.specs.Grammar.{modOf, rmOf, baseOf}
 
 -- a SIB byte's index: the register times 1, 2, 4 or 8; index 4 is none

@@ -7,7 +7,7 @@ use Rattle.width.specs.declared.Size.{Size}
 use Rattle.width.specs.declared.Size.the-variants.{Byte, Word, Dword}
 use Rattle.width.specs.Numbers.{rest, signExtended}
 use Rattle.machine.specs.declared.registers.Machine.{Machine}
-use Rattle.grammar.specs.declared.decode.Decoded.{Decoded}
+use Rattle.grammar.specs.declared.instruction.Decoded.{Decoded}
 use Rattle.grammar.specs.Grammar.{modOf, regOf, rmOf}
 use Rattle.sense.specs.declared.Operation.{Operation}
 use Rattle.grammar.specs.declared.relative.Relative.{Relative}

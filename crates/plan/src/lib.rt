@@ -3,7 +3,7 @@ ghost use mathlib.Core.Path.{_≡_};
 ghost use Prim.Native.Nat.{_^_, _<_};
 ghost use Rattle.plan.specs.Addresses.{scaledIndex, baseRegister, addressBase, effectiveAddress};
 ghost use Rattle.plan.specs.Plans.{sizeOf, operandOf, nextOf, planFor, leads, planOf};
-use grammar::decode::Decoded;
+use grammar::instruction::Decoded;
 use grammar::relative::Relative;
 use grammar::rule::Repeat;
 use machine::registers::Machine;

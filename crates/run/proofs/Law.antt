@@ -14,6 +14,7 @@ use Rattle.machine.specs.declared.registers.Machine.{Machine}
 use Rattle.run.specs.declared.Lent.{Lent}
 use Rattle.run.specs.Steps.{Moved, next, stop, stepOf}
 use Rattle.run.specs.Runs.{Ended, Outcome, onMoved, runFrom, refusal, opened, closed, taken, refused, runOf}
+use Rattle.run.specs.Pausing.{Joined}
 use Rattle.run.proofs.Kept.{run-keeps}
 
 -- the same end, k steps more being done
@@ -112,14 +113,6 @@ pub refusal-changes-nothing : (code : List ℕ) (l : Lent) (d : List ℕ) (b : �
     → runOf code l d b ≡ refused l d (refusal (length code) (length d) (l .word) b)
 unfolding runOf
 refusal-changes-nothing code l d b h = rw (ne-eqb (refusal (length code) (length d) (l .word) b) 0 h)
-
--- the whole ends as the second does, and its steps are those of both
-pub record Joined (first second whole : Outcome) : Type 0 where
-  pub machine : whole .ran .machine ≡ second .ran .machine
-  pub area : whole .area ≡ second .area
-  pub number : whole .ran .number ≡ second .ran .number
-  pub address : whole .ran .address ≡ second .ran .address
-  pub steps : whole .ran .steps ≡ first .ran .steps + second .ran .steps
 
 module _ (code : List ℕ) (l : Lent) (d : List ℕ) (n m : ℕ) (some : 0 < m) (small : n + m ≤ 1_000_000) where
   -- what the first n steps end with

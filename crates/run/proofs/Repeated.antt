@@ -14,8 +14,8 @@ use Rattle.width.specs.Numbers.{residue, rest}
 use Rattle.machine.specs.declared.registers.Machine.{Machine}
 use Rattle.machine.specs.Registers.{register, withEip}
 use Rattle.grammar.specs.declared.rule.Repeat.{Repeat}
-use Rattle.grammar.specs.declared.decode.Decoded.{Decoded}
-use Rattle.grammar.specs.declared.decode.Found.{Found}
+use Rattle.grammar.specs.declared.instruction.Decoded.{Decoded}
+use Rattle.grammar.specs.declared.instruction.Found.{Found}
 use Rattle.grammar.specs.Decoding.{decodeOf}
 use Rattle.grammar.proofs.Answered.{found-standing}
 use Rattle.grammar.proofs.Eleven.{found-eleven}
@@ -34,13 +34,8 @@ use Rattle.effect.proofs.Repeats.{none-left, counts, as-many, goes-on}
 use Rattle.run.specs.Steps.{next, committed, finished, performed, planned, executed, stepOf}
 use Rattle.run.specs.Runs.{onMoved, runFrom}
 use Rattle.run.proofs.Planned.{planned-goes}
-use Rattle.run.proofs.Unreadable.{InCode, step-found}
-
--- so many steps, none of which stops, lead from a machine and data to others
-pub data After (code : List ℕ) : ℕ → Machine → List ℕ → Machine → List ℕ → Type 0 where
-  here : {m : Machine} {d : List ℕ} → After code 0 m d m d
-  on : {k : ℕ} {m m₁ m₂ : Machine} {d d₁ d₂ : List ℕ} → stepOf code m d ≡ next m₁ d₁ → After code k m₁ d₁ m₂ d₂
-      → After code (suc k) m d m₂ d₂
+use Rattle.run.specs.Repetitions.{After, here, on, Repeating, Left, Over, stepsFor}
+use Rattle.run.proofs.Unreadable.{step-found}
 
 -- a run with them in its budget has done them, and goes on from there
 pub runs-on : {code : List ℕ} {k : ℕ} {m m′ : Machine} {d d′ : List ℕ} → After code k m d m′ d′ → (b done : ℕ)
@@ -66,36 +61,11 @@ pub same-plan : (m m′ : Machine) (i : Decoded) → m′ .eip ≡ m .eip → Sa
 unfolding planOf planFor nextOf
 same-plan m m′ i h = record { operation = refl; repeat = refl; next = rw h }
 
--- EIP is at MOVS, STOS or LODS under F3, in a machine of eight registers
-pub record Repeating (code : List ℕ) (i : Decoded) (op : Strings) (m : Machine) : Type 0 where
-  pub place : InCode code m
-  pub found : decodeOf code (m .eip - codeBase) ≡ Found.Instruction i
-  pub operation : (planOf m i) .operation ≡ Operation.Strings op
-  pub plain : compares op ≡ false
-  pub prefix : (planOf m i) .repeat ≡ Repeat.F3
-  pub eight : length (m .regs) ≡ 8
-
 -- what a round that leaves ECX = n does: EIP moves on if ECX is now 0, else it stays
 pub record Round (i : Decoded) (m m′ : Machine) (n : ℕ) : Type 0 where
   pub count : register m′ ecx ≡ n
   pub many : length (m′ .regs) ≡ 8
   pub place : m′ .eip ≡ cond (eqb n 0) ((planOf m i) .next) (m .eip)
-
--- the repetition goes on: EIP is still at the instruction, with ECX = n
-pub record Left (code : List ℕ) (i : Decoded) (op : Strings) (m m′ : Machine) (n : ℕ) : Type 0 where
-  pub again : Repeating code i op m′
-  pub place : m′ .eip ≡ m .eip
-  pub count : register m′ ecx ≡ n
-
--- the repetition is over: EIP is at the next instruction, with ECX 0
-pub record Over (i : Decoded) (m m′ : Machine) : Type 0 where
-  pub place : m′ .eip ≡ (planOf m i) .next
-  pub count : register m′ ecx ≡ 0
-
--- the steps that a repetition from ECX = n takes: n, or 1 where n is 0
-unfoldable pub stepsFor : ℕ → ℕ
-stepsFor zero = 1
-stepsFor (suc n) = suc n
 
 module _ {code : List ℕ} {i : Decoded} {op : Strings} {m : Machine} (at : Repeating code i op m) where
   -- a machine with the same EIP is at the instruction too

@@ -1,4 +1,4 @@
--- Numbers 3 and 4 by the grammar: exactly where the bytes from EIP to the code's end are cut, or no such instruction. Assumes nothing.
+-- A step by the grammar: 3 and 4 come exactly where the bytes from EIP to the code's end are cut, or no such instruction; where they begin with one, the step is that of its plan. Assumes nothing.
 use mathlib.Core.Path.{_≡_, refl, sym, _∙_}
 use mathlib.Core.Logic.{_↔_}
 use mathlib.Core.Bool.{Bool, true, false}
@@ -9,42 +9,21 @@ use lib.Dec.{leb, ltb, eqb}
 use lib.ListN.{length, drop}
 use borrow.Author.Tests.{eqb-true, eqb-false, leb-true, leb-false, ltb-true, ltb-false}
 use Rattle.machine.specs.declared.registers.Machine.{Machine}
-use Rattle.grammar.specs.declared.decode.Found.{Found}
-use Rattle.grammar.specs.Answers.{Begins, Prefix, cut, unknown}
+use Rattle.grammar.specs.declared.instruction.Found.{Found}
+use Rattle.grammar.specs.Answers.{numbers, Begins, Prefix, instruction, cut, unknown}
 use Rattle.grammar.specs.Decoding.{decodeOf}
 use Rattle.grammar.proofs.Answered.{found-cut, found-unknown, answers-decode}
 use Rattle.blockcheck.specs.Blocks.{codeBase}
-use Rattle.run.specs.Steps.{stop, home, executed, stepOf}
+use Rattle.plan.specs.Plans.{planOf}
+use Rattle.run.specs.Steps.{stop, home, planned, executed, stepOf}
+use Rattle.run.specs.Standing.{InCode, fromEip, IsCut, IsUnknown}
 use Rattle.run.proofs.Places.{at-home, below-code, past-code, in-code}
 use Rattle.run.proofs.Planned.{planned-stops}
-
--- EIP is inside the code, and not home
-pub record InCode (code : List ℕ) (m : Machine) : Type 0 where
-  pub away : m .eip ≡ home → ⊥
-  pub low : codeBase ≤ m .eip
-  pub high : m .eip - codeBase < length code
-
--- the bytes from EIP to the code's end
-abbrev pub fromEip : List ℕ → Machine → List ℕ
-fromEip code m = drop (m .eip - codeBase) code
 
 -- inside the code a step is that of what decode finds at EIP
 pub step-found : (code : List ℕ) (m : Machine) (d : List ℕ) → InCode code m
     → stepOf code m d ≡ executed (decodeOf code (m .eip - codeBase)) m d
 step-found code m d p = in-code code m d (p .away) (p .low) (p .high)
-
--- what 3 at the address a means: cut
-pub record IsCut (code : List ℕ) (m : Machine) (a : ℕ) : Type 0 where
-  pub place : InCode code m
-  pub address : a ≡ m .eip
-  pub prefix : Prefix (fromEip code m)
-
--- what 4 at the address a means: no such instruction
-pub record IsUnknown (code : List ℕ) (m : Machine) (a : ℕ) : Type 0 where
-  pub place : InCode code m
-  pub address : a ≡ m .eip
-  pub begins-with-none : Begins (fromEip code m) → ⊥
-  pub no-prefix : Prefix (fromEip code m) → ⊥
 
 -- why a step stops with the number n and the address a
 data Halts (code : List ℕ) (m : Machine) (n a : ℕ) : Type 0 where
@@ -114,6 +93,11 @@ module _ (code : List ℕ) (m : Machine) (d : List ℕ) where
       back h =
           step-found code m d (h .place)
           ∙ rw (answers-decode code (m .eip - codeBase) (unknown (h .begins-with-none) (h .no-prefix)), h .address)
+
+  -- where they begin with an instruction, the step is that of its plan
+  pub instruction-steps : InCode code m → (i : Begins (fromEip code m)) → stepOf code m d ≡ planned (planOf m (numbers (i .instruction .parts))) m d
+  unfolding executed
+  instruction-steps place i = step-found code m d place ∙ rw (answers-decode code (m .eip - codeBase) (instruction i))
 
   -- a step that stops has a number from 1 to 7
   pub stops-between : (n a : ℕ) → stepOf code m d ≡ stop n a → (1 ≤ n) × (n ≤ 7)

@@ -2,3 +2,6 @@
 pub mod Steps
 pub mod Fetching
 pub mod Runs
+pub mod Standing
+pub mod Pausing
+pub mod Repetitions

@@ -4,7 +4,7 @@ use effect::all::reads_by;
 use effect::outcome::Effect;
 use effect::outcome::Outcome;
 use effect::outcome::Reads;
-use grammar::decode::Found;
+use grammar::instruction::Found;
 use machine::memory::Loaded;
 use machine::memory::Stored;
 use machine::registers::Machine;
@@ -156,7 +156,7 @@ fn follow(p: Plan, m: Machine, area: &mut [u8]) -> Stepped
 fn execute(code: &[u8], at: usize, m: Machine, area: &mut [u8]) -> Stepped
     ensures { λ r. ⌜ Steps (executed (decodeOf (now (code .entry)) at) m (now (area .entry))) m (now (area .entry)) r (now (area .exit)) ⌝ }
 {
-    match grammar::decode::decode(code, at) {
+    match grammar::reader::read(code, at) {
         Found::Instruction(d) => follow(plan::plan_of(m, d), m, area),
         Found::Cut => stop(m, 3, m.eip),
         Found::Unknown => stop(m, 4, m.eip),

@@ -15,8 +15,8 @@ use Rattle.width.specs.Numbers.{rest, residue}
 use Rattle.machine.specs.declared.registers.Machine.{Machine}
 use Rattle.grammar.specs.Decoding.{decodeOf}
 use Rattle.grammar.specs.Relative.{relativeOf}
-use Rattle.grammar.specs.declared.decode.Decoded.{Decoded}
-use Rattle.grammar.specs.declared.decode.Found.{Found}
+use Rattle.grammar.specs.declared.instruction.Decoded.{Decoded}
+use Rattle.grammar.specs.declared.instruction.Found.{Found}
 use Rattle.grammar.specs.declared.relative.Relative.{Relative}
 use Rattle.grammar.proofs.Answered.{found-standing, found-inside}
 use Rattle.blockcheck.specs.Blocks.{codeBase, targetOf}

@@ -5,7 +5,7 @@ use mathlib.Core.List.{List}
 use Prim.Native.Nat.{ℕ, zero, suc, _+_, _-_}
 use Rattle.machine.specs.declared.registers.Machine.{Machine}
 use Rattle.grammar.specs.Decoding.{decodeOf}
-use Rattle.grammar.specs.declared.decode.Found.{Found}
+use Rattle.grammar.specs.declared.instruction.Found.{Found}
 use Rattle.blockcheck.specs.Blocks.{codeBase}
 use Rattle.blockcheck.specs.Starts.{Start}
 use Rattle.plan.specs.Plans.{planOf}

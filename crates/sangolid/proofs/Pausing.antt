@@ -10,7 +10,8 @@ use Rattle.run.specs.declared.Lent.{Lent}
 use Rattle.run.specs.declared.Ran.{Ran}
 use Rattle.run.specs.Runs.{Outcome, runOf}
 use Rattle.run.proofs.Kept.{registers-kept}
-use Rattle.run.proofs.Law.{Joined, law}
+use Rattle.run.specs.Pausing.{Joined}
+use Rattle.run.proofs.Law.{law}
 use Rattle.sangolid.specs.Interface.{lentOf, stateOf, called, callOf}
 use Rattle.sangolid.specs.Pausing.{again, Continues}
 use Rattle.sangolid.proofs.Outcomes.{listed, part-listed}

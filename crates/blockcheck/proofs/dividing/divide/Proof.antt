@@ -9,7 +9,7 @@ use Rattle.blockcheck.proofs.dividing.divide.Statement.{statement}
 use Rattle.blockcheck.proofs.dividing.divide.Tie as tie
 use Rattle.grammar.proofs.Answered.{found-standing}
 use Rattle.grammar.specs.Decoding.{decodeOf}
-use Rattle.grammar.specs.declared.decode.Found.{Found}
+use Rattle.grammar.specs.declared.instruction.Found.{Found}
 
 abbrev Inv-loop : tie.InvT-loop
 Inv-loop code marks₀ at₀ count₀ marks at count = Dividing code marks at count
@@ -20,8 +20,8 @@ abbrev μ-loop : tie.MeasureT-loop
 loop-holds : tie.Need-loop-holds Inv-loop μ-loop
 loop-holds c = rw (c .before .before .pre) (begins (c .before .before .args .code .now))
 
-decode-requires : tie.Need-decode-requires Inv-loop μ-loop
-decode-requires c κs = search needs
+read-requires : tie.Need-read-requires Inv-loop μ-loop
+read-requires c κs = search needs
 
 enum-known-d : tie.Need-enum-known-d Inv-loop μ-loop
 enum-known-d c = search needs
@@ -32,7 +32,7 @@ slice-write-marks c = let l = c .before .before .before .before .before .loop in
 -- the instruction that decode found
 found : (c : tie.After-struct-known Inv-loop μ-loop)
     → decodeOf (c .before .before .before .before .before .before .before .before .before .args .code .now) (c .before .before .before .before .before .before .loop .at) ≡ Found.Instruction (c .before .before .d .given .0 .0)
-found c = sym (c .before .before .before .before .decode .ensures .is) ∙ c .before .before .d .given .1
+found c = sym (c .before .before .before .before .read .ensures .is) ∙ c .before .before .d .given .1
 
 loop-again : tie.Need-loop-again Inv-loop μ-loop
 loop-again c = goes (c .before .before .d .given .0 .0) (c .before .before .before .before .before .before .loop .inv) (found c)
@@ -53,7 +53,7 @@ same-length : tie.Need-same-length Inv-loop μ-loop
 same-length c = as-long (c .before .before .before .before .loop .inv) ∙ sym (ap length (c .before .before .before .before .before .before .before .pre) ∙ length-replicate _ _)
 
 returns : tie.Need-returns Inv-loop μ-loop
-returns c = cuts (c .before .before .before .before .loop .inv) (c .before .before .before .loop-test .taken) (sym (c .before .before .decode .ensures .is) ∙ c .enum-told .given .1)
+returns c = cuts (c .before .before .before .before .loop .inv) (c .before .before .before .loop-test .taken) (sym (c .before .before .read .ensures .is) ∙ c .enum-told .given .1)
 
 enum-told-2 : tie.Need-enum-told-2 Inv-loop μ-loop
 enum-told-2 c = search needs
@@ -62,7 +62,7 @@ same-length-2 : tie.Need-same-length-2 Inv-loop μ-loop
 same-length-2 c = as-long (c .before .before .before .before .loop .inv) ∙ sym (ap length (c .before .before .before .before .before .before .before .pre) ∙ length-replicate _ _)
 
 returns-2 : tie.Need-returns-2 Inv-loop μ-loop
-returns-2 c = stops (c .before .before .before .before .loop .inv) (sym (c .before .before .decode .ensures .is) ∙ c .enum-told2 .given .1)
+returns-2 c = stops (c .before .before .before .before .loop .inv) (sym (c .before .before .read .ensures .is) ∙ c .enum-told2 .given .1)
 
 same-length-3 : tie.Need-same-length-3 Inv-loop μ-loop
 same-length-3 c = as-long (c .before .loop .inv) ∙ sym (ap length (c .before .before .before .before .pre) ∙ length-replicate _ _)
@@ -77,7 +77,7 @@ divide-spec =
     Inv-loop
     μ-loop
     loop-holds
-    decode-requires
+    read-requires
     enum-known-d
     slice-write-marks
     add-at

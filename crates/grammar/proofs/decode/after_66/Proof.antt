@@ -11,7 +11,7 @@ use Rattle.grammar.specs.Choice.{pick}
 use Rattle.grammar.specs.Reading.{Tree, byte}
 use Rattle.grammar.specs.Decoding.{sizeTree, found}
 use Rattle.grammar.specs.declared.rule.Repeat.{Repeat}
-use Rattle.grammar.specs.declared.decode.Decoded.{Decoded}
+use Rattle.grammar.specs.declared.instruction.Decoded.{Decoded}
 use Rattle.grammar.proofs.Finding.{found-end, found-byte, found-no, prefixed-by}
 use Rattle.grammar.proofs.decode.after_66.Statement.{statement}
 use Rattle.grammar.proofs.decode.after_66.Tie as tie

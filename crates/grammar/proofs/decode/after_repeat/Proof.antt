@@ -10,7 +10,7 @@ use borrow.Author.Tests.{ne-eqb}
 use Rattle.grammar.specs.Choice.{pick}
 use Rattle.grammar.specs.Reading.{Tree, byte}
 use Rattle.grammar.specs.Decoding.{repeatTree, found}
-use Rattle.grammar.specs.declared.decode.Decoded.{Decoded}
+use Rattle.grammar.specs.declared.instruction.Decoded.{Decoded}
 use Rattle.grammar.proofs.Finding.{found-end, found-byte, found-no, prefixed-by}
 use Rattle.grammar.proofs.decode.after_repeat.Statement.{statement}
 use Rattle.grammar.proofs.decode.after_repeat.Tie as tie

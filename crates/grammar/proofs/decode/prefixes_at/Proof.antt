@@ -12,7 +12,7 @@ use Rattle.grammar.specs.Choice.{pick}
 use Rattle.grammar.specs.Reading.{Tree, byte}
 use Rattle.grammar.specs.Decoding.{tree, found}
 use Rattle.grammar.specs.declared.rule.Repeat.{Repeat}
-use Rattle.grammar.specs.declared.decode.Decoded.{Decoded}
+use Rattle.grammar.specs.declared.instruction.Decoded.{Decoded}
 use Rattle.grammar.proofs.Finding.{found-byte, found-no, prefixed-by, prefixed-from}
 use Rattle.grammar.proofs.decode.prefixes_at.Statement.{statement}
 use Rattle.grammar.proofs.decode.prefixes_at.Tie as tie

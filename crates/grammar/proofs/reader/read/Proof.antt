@@ -40,11 +40,11 @@ use denote.Exit.{yes}
 use denote.Triple.Clauses.{ensured, lasts}
 use Rattle.grammar.specs.Decoding.{Decodes}
 use Rattle.grammar.specs.declared.reader.Reader.{Reader}
-use Rattle.grammar.specs.declared.decode.Found.{Found}
+use Rattle.grammar.specs.declared.instruction.Found.{Found}
 use Rattle.grammar.proofs.reader.Reader as T
 use Rattle.grammar.proofs.reader.Reader.Laws as T′
-use Rattle.grammar.proofs.decode.Found as S
-use Rattle.grammar.proofs.decode.Found.Laws as S′
+use Rattle.grammar.proofs.instruction.Found as S
+use Rattle.grammar.proofs.instruction.Found.Laws as S′
 use Rattle.grammar.proofs.reader.new as new
 use Rattle.grammar.proofs.reader.new.Symbol as new-def
 use Rattle.grammar.proofs.reader.new.Symbol.{name as #new}

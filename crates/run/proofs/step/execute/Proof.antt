@@ -8,17 +8,17 @@ use Rattle.run.specs.Steps.{executed, steppedOf, dataAfter}
 returns : tie.Need-returns
 unfolding executed
 returns c =
-    rw (sym (c .before .before .before .before .before .before .before .before .decode .ensures .is) ∙ c .before .before .before .before .before .before .d .given .1, ← c .before .before .before .before .plan-of .ensures) (c .before .before .follow .ensures)
+    rw (sym (c .before .before .before .before .before .before .before .before .read .ensures .is) ∙ c .before .before .before .before .before .before .d .given .1, ← c .before .before .before .before .plan-of .ensures) (c .before .before .follow .ensures)
 
 returns-2 : tie.Need-returns-2
 unfolding executed steppedOf dataAfter
 returns-2 c =
-    rw (sym (c .before .before .before .decode .ensures .is) ∙ c .before .enum-told .given .1) (record { is = c .stop .ensures; left = refl })
+    rw (sym (c .before .before .before .read .ensures .is) ∙ c .before .enum-told .given .1) (record { is = c .stop .ensures; left = refl })
 
 returns-3 : tie.Need-returns-3
 unfolding executed steppedOf dataAfter
 returns-3 c =
-    rw (sym (c .before .before .before .decode .ensures .is) ∙ c .before .enum-told2 .given .1) (record { is = c .stop2 .ensures; left = refl })
+    rw (sym (c .before .before .before .read .ensures .is) ∙ c .before .enum-told2 .given .1) (record { is = c .stop2 .ensures; left = refl })
 
 pub execute-spec : {M : Type 1} → statement M
 execute-spec =
