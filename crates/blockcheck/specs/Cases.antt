@@ -7,26 +7,26 @@ use Rattle.blockcheck.specs.Blocks.{numberOf, valueOf, Judged}
 use Rattle.blockcheck.specs.declared.Verdict.{Verdict}
 
 -- a block, the paper's number and value for it, and the marks left
-pub record Case : Type 0 where
+pub record BlockCase : Type 0 where
   pub code : List ℕ
   pub number : ℕ
   pub value : ℕ
   pub after : List ℕ
 
 -- whatever marks of the code's length are lent, the answer is judged so
-pub record Holds (c : Case) (marks : List ℕ) : Type 0 where
+pub record Holds (c : BlockCase) (marks : List ℕ) : Type 0 where
   pub verdict : Verdict
   pub judged : Judged (c .code) marks verdict (c .after)
   pub number : numberOf verdict ≡ c .number
   pub value : valueOf verdict ≡ c .value
 
 -- every case of a list
-unfoldable pub All : List Case → Type 0
+unfoldable pub All : List BlockCase → Type 0
 All [] = Unit
 All (c ∷ cases) = ((marks : List ℕ) → length marks ≡ length (c .code) → Holds c marks) × All cases
 
 -- EB FE accepted, 1; EB 00 and EB FF 90: 23 at 0; EB FF C0: 21 at 2
-unfoldable pub case-14 : List Case
+unfoldable pub case-14 : List BlockCase
 case-14 =
     record { code = 0xEB ∷ 0xFE ∷ []; number = 0; value = 1; after = 1 ∷ 0 ∷ [] }
     ∷ record { code = 0xEB ∷ 0x00 ∷ []; number = 23; value = 0; after = 0 ∷ 0 ∷ [] }

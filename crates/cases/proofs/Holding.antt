@@ -83,13 +83,13 @@ both [] more h k = k
 both (c ∷ cases) more h k = (h .0, both cases more (h .1) k)
 
 -- what the grammar's table says of bytes, line by line
-bytes-hold : (cases : List Bytes.Case) → Bytes.All cases → All (map bytes cases)
+bytes-hold : (cases : List Bytes.BytesCase) → Bytes.All cases → All (map bytes cases)
 unfolding All Holds Bytes.All
 bytes-hold [] h = tt
 bytes-hold (c ∷ cases) h = (h .0, bytes-hold cases (h .1))
 
 -- what the block check's table says of blocks, line by line
-blocks-hold : (cases : List Blocks.Case) → Blocks.All cases → All (map block cases)
+blocks-hold : (cases : List Blocks.BlockCase) → Blocks.All cases → All (map block cases)
 unfolding All Holds Blocks.All
 blocks-hold [] h = tt
 blocks-hold (c ∷ cases) h = (h .0, blocks-hold cases (h .1))

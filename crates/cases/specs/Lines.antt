@@ -71,8 +71,8 @@ Keeps code =
 pub data Case : Type 0 where
   run : Run → Case
   keeps : List ℕ → Case
-  bytes : Bytes.Case → Case
-  block : Blocks.Case → Case
+  bytes : Bytes.BytesCase → Case
+  block : Blocks.BlockCase → Case
 
 -- it holds; of the block check, whatever marks of the code's length are lent
 unfoldable pub Holds : Case → Type 0

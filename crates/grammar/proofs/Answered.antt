@@ -8,7 +8,7 @@ use lib.ListN.{length, take, drop, length-append, length-drop}
 use lib.Seq.{take-at, length-take-le}
 use Rattle.grammar.specs.Grammar.{prefixBytes, Opcode, alone, after0F, opcodeBytes, operandBytes, Parts, Instruction, bytesOf}
 use Rattle.grammar.specs.Answers.{numbers, ownBytes, Begins, Prefix, Answers, instruction, cut, unknown}
-use Rattle.grammar.specs.Reading.{Outcome, whole, short, wrong, run}
+use Rattle.grammar.specs.Reading.{Read, whole, short, wrong, run}
 use Rattle.grammar.specs.Decoding.{tree, answer, found, decodeOf, Decodes}
 use Rattle.grammar.specs.declared.instruction.Decoded.{Decoded}
 use Rattle.grammar.specs.declared.instruction.Found.{Found}
@@ -45,7 +45,7 @@ run-prefix bytes e =
     record { next = next; more = more; whole = spells-tree s .instruction }
 
 -- each outcome of a run is the grammar's answer
-answered : (bytes : List ℕ) (o : Outcome Decoded) → run tree bytes ≡ o → Answers bytes (answer o)
+answered : (bytes : List ℕ) (o : Read Decoded) → run tree bytes ≡ o → Answers bytes (answer o)
 unfolding answer
 answered bytes (whole x rest) e =
     let (i, same) = run-begins bytes x rest e in
@@ -71,7 +71,7 @@ only bytes (instruction i) = sym (ap answer (begins-run i))
 only bytes (cut p) = sym (ap answer (prefix-run p))
 only bytes (unknown begins prefix) = go (run tree bytes) refl
   where
-    go : (o : Outcome Decoded) → run tree bytes ≡ o → Found.Unknown ≡ answer o
+    go : (o : Read Decoded) → run tree bytes ≡ o → Found.Unknown ≡ answer o
     go (whole x rest) e = absurd (begins (run-begins bytes x rest e .0))
     go short e = absurd (prefix (run-prefix bytes e))
     go wrong e = refl

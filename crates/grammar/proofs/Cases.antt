@@ -14,7 +14,7 @@ use Rattle.width.specs.LittleEndian.{littleEndian}
 use Rattle.grammar.specs.Answers.{displaced}
 use Rattle.grammar.specs.Reading.{run, bytesThen}
 use Rattle.grammar.specs.Decoding.{tailTree, addressTree, modrmTree, operandTree, accepts, entryTree, opcodeTree, some, acceptsEntry, escapes, escapeTree, firstTree, sizeTree, repeatTree, tree, answer, found, decodeOf}
-use Rattle.grammar.specs.Cases.{Verdict, cut, unknown, one, Case, Holds, All, case13}
+use Rattle.grammar.specs.Cases.{Verdict, cut, unknown, one, BytesCase, Holds, All, case13}
 use Rattle.grammar.specs.declared.instruction.Found.{Found}
 use Rattle.grammar.proofs.Below.{both-left, both-right}
 use Rattle.grammar.proofs.Answered.{decode-answers, found-standing}
@@ -47,12 +47,12 @@ holds one bytes Found.Cut e t = absurd t
 holds one bytes Found.Unknown e t = absurd t
 
 -- all of a table agrees
-test : List Case → Bool
+test : List BytesCase → Bool
 test [] = true
 test (c ∷ cs) = both (agrees (c .verdict) (length (c .bytes)) (decodeOf (c .bytes) 0)) (test cs)
 
 -- so all of it holds
-tested : (cs : List Case) → T (test cs) → All cs
+tested : (cs : List BytesCase) → T (test cs) → All cs
 unfolding test All
 tested [] t = tt
 tested (c ∷ cs) t =

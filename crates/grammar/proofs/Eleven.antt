@@ -9,7 +9,7 @@ use lib.Dec.{T, leb, leb→le, eqb}
 use lib.ListN.{length, getD, length-append}
 use Rattle.grammar.specs.Choice.{pick}
 use Rattle.grammar.specs.Opcodes.{ruleOf, listed}
-use Rattle.grammar.specs.Grammar.{F2, F3, Prefixes, plain, size, repeated, size-repeated, repeated-size, prefixBytes, narrowOf, repeatOf, repeatIn, Opcode, alone, after0F, opcodeByte, opcodeBytes, numberOf, Operand, operandBytes, fieldOf, OperandFits, without, with, displacementLength, immediateLength, bytesOf, Instruction}
+use Rattle.grammar.specs.Grammar.{F2, F3, Prefixes, plain, size, repeated, size-repeated, repeated-size, prefixBytes, narrowOf, repeatOf, repeatIn, Opcode, alone, after0F, opcodeByte, opcodeBytes, opcodeNumber, Operand, operandBytes, fieldOf, OperandFits, without, with, displacementLength, immediateLength, bytesOf, Instruction}
 use Rattle.grammar.specs.Answers.{numbers}
 use Rattle.grammar.specs.Decoding.{decodeOf, hasModrm, accepts}
 use Rattle.grammar.specs.declared.rule.ModRM.{ModRM}
@@ -110,8 +110,8 @@ short-after0F false Repeat.F2 = tt
 short-after0F false Repeat.F3 = tt
 
 -- at each opcode
-short-opcode : (narrow : Bool) (repeat : Repeat) (o : Opcode) → opcodeByte o < 256 → T (short narrow repeat (length (opcodeBytes o)) (ruleOf (numberOf o)))
-unfolding opcodeBytes numberOf
+short-opcode : (narrow : Bool) (repeat : Repeat) (o : Opcode) → opcodeByte o < 256 → T (short narrow repeat (length (opcodeBytes o)) (ruleOf (opcodeNumber o)))
+unfolding opcodeBytes opcodeNumber
 short-opcode narrow repeat (alone b) h = below (λ k. short narrow repeat 1 (ruleOf k)) 0x100 (short-alone narrow repeat) b h
 short-opcode narrow repeat (after0F b) h = below (λ k. short narrow repeat 2 (ruleOf (0x100 + k))) 0x100 (short-after0F narrow repeat) b h
 

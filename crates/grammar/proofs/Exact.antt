@@ -11,7 +11,7 @@ use lib.Dec.{eqb}
 use lib.ListN.{length}
 use borrow.Author.Tests.{eqb-true, ne-eqb}
 use Rattle.grammar.specs.Opcodes.{ruleOf}
-use Rattle.grammar.specs.Grammar.{Instruction, fieldOf, Repeating, F2, F3, repeatingByte, repeatOf, Prefixes, plain, size, repeated, size-repeated, repeated-size, prefixBytes, narrowOf, repeatIn, Opcode, alone, after0F, opcodeByte, opcodeBytes, numberOf, Operand, operandBytes, allows66, allowsRepeat, Parts, bytesOf, Built}
+use Rattle.grammar.specs.Grammar.{Instruction, fieldOf, Repeating, F2, F3, repeatingByte, repeatOf, Prefixes, plain, size, repeated, size-repeated, repeated-size, prefixBytes, narrowOf, repeatIn, Opcode, alone, after0F, opcodeByte, opcodeBytes, opcodeNumber, Operand, operandBytes, allows66, allowsRepeat, Parts, bytesOf, Built}
 use Rattle.grammar.specs.Answers.{numbers}
 use Rattle.grammar.specs.Reading.{none, byte}
 use Rattle.grammar.specs.Decoding.{opened, operandTree, accepts, acceptsEntry, entryTree, opcodeTree, escapes, escapeTree, firstTree, sizeTree, repeatTree, tree}
@@ -64,11 +64,11 @@ record Body (p : Prefixes) (x : Decoded) (bytes : List ℕ) : Type 0 where
 
 -- what follows an opcode's bytes
 spells-body : (p : Prefixes) (o : Opcode) (n : ℕ) {x : Decoded} {bytes : List ℕ} → n ≡ length (prefixBytes p) + length (opcodeBytes o)
-    → opcodeByte o < 256 → Spells (opcodeTree n (narrowOf p) (repeatIn p) (numberOf o)) x bytes → Body p x (opcodeBytes o ++ bytes)
+    → opcodeByte o < 256 → Spells (opcodeTree n (narrowOf p) (repeatIn p) (opcodeNumber o)) x bytes → Body p x (opcodeBytes o ++ bytes)
 unfolding accepts
 spells-body p o n read-on small s =
-    let (rule, listed, accepted, t) = spells-opcode n (narrowOf p) (repeatIn p) (numberOf o) s in
-    let ops = spells-operand rule (opened n (narrowOf p) (repeatIn p) (numberOf o)) (both-right-held (allowsRepeat (rule .repeats) (repeatIn p)) _ accepted) t in
+    let (rule, listed, accepted, t) = spells-opcode n (narrowOf p) (repeatIn p) (opcodeNumber o) s in
+    let ops = spells-operand rule (opened n (narrowOf p) (repeatIn p) (opcodeNumber o)) (both-right-held (allowsRepeat (rule .repeats) (repeatIn p)) _ accepted) t in
     record {
       opcode = o;
       operand = ops .operand;
@@ -90,7 +90,7 @@ spells-body p o n read-on small s =
 -- what follows the prefixes
 spells-first : (p : Prefixes) {x : Decoded} {bytes : List ℕ} → Spells (byte (firstTree (length (prefixBytes p)) (narrowOf p) (repeatIn p))) x bytes
     → Body p x bytes
-unfolding firstTree escapeTree opcodeBytes numberOf
+unfolding firstTree escapeTree opcodeBytes opcodeNumber
 spells-first p {x} (read {b} {bs} small s) =
     ⊎-elim
     (λ t. rw (eqb-true b 0x0F (t .0)) (escaped (held (escapes (narrowOf p) (repeatIn p)) _ (t .1) .1)))
@@ -170,17 +170,17 @@ unlike : (b v : ℕ) {rule : Rule} → ruleOf b ≡ Entry.Listed rule → ruleOf
 unlike b v listed e = ne-eqb b v (λ same. let z : _≡_ {A = ℕ} 0 1 = cc in omega arith)
 
 -- and, but for 0F, begins none
-not-lead : (o : Opcode) {rule : Rule} (v : ℕ) → ruleOf (numberOf o) ≡ Entry.Listed rule → ruleOf v ≡ Entry.Unlisted → eqb 0x0F v ≡ false → eqb (lead o) v ≡ false
-unfolding numberOf
+not-lead : (o : Opcode) {rule : Rule} (v : ℕ) → ruleOf (opcodeNumber o) ≡ Entry.Listed rule → ruleOf v ≡ Entry.Unlisted → eqb 0x0F v ≡ false → eqb (lead o) v ≡ false
+unfolding opcodeNumber
 not-lead (alone b) v listed e f = unlike b v listed e
 not-lead (after0F b) v listed e f = f
 
 -- an opcode and what follows it
 first-spells : (n : ℕ) (narrow : Bool) (repeat : Repeat) (o : Opcode) {rule : Rule} {x : Decoded} {bytes : List ℕ} → opcodeByte o < 256
-    → ruleOf (numberOf o) ≡ Entry.Listed rule → accepts narrow repeat rule ≡ true
-    → Spells (operandTree rule (opened (n + length (opcodeBytes o)) narrow repeat (numberOf o))) x bytes
+    → ruleOf (opcodeNumber o) ≡ Entry.Listed rule → accepts narrow repeat rule ≡ true
+    → Spells (operandTree rule (opened (n + length (opcodeBytes o)) narrow repeat (opcodeNumber o))) x bytes
     → Spells (firstTree n narrow repeat (lead o)) x (second o ++ bytes)
-unfolding firstTree escapeTree opcodeBytes numberOf escapes acceptsEntry
+unfolding firstTree escapeTree opcodeBytes opcodeNumber escapes acceptsEntry
 first-spells n narrow repeat (alone b) small listed accepted s =
     spells-no _ (unlike b 0x0F listed unlisted-0F) (opcode-spells (n + 1) narrow repeat b listed accepted s)
 first-spells n narrow repeat (after0F b) {rule} small listed accepted s =
@@ -196,7 +196,7 @@ repeat-spells F2 s = read {b = 0xF2} (omega arith) (spells-no _ refl (spells-yes
 repeat-spells F3 s = read {b = 0xF3} (omega arith) (spells-no _ refl (spells-no _ refl (spells-yes _ refl s)))
 
 -- prefixes, and an opcode after them
-module _ (o : Opcode) (rule : Rule) (small : opcodeByte o < 256) (listed : ruleOf (numberOf o) ≡ Entry.Listed rule) where
+module _ (o : Opcode) (rule : Rule) (small : opcodeByte o < 256) (listed : ruleOf (opcodeNumber o) ≡ Entry.Listed rule) where
   not-66 : eqb (lead o) 0x66 ≡ false
   not-66 = not-lead o 0x66 listed unlisted-66 refl
 
@@ -238,7 +238,7 @@ module _ (P : Parts) (built : Built P) where
       first-spells (length (prefixBytes p)) (narrowOf p) (repeatIn p) o (built .opcode) (built .listed)
       (both-hold (built .repeat) (allows66-zero (built .rule .size) (narrowOf p) (fieldOf (P .operand)) (built .size)))
       (rw (← gathered p o n refl (P .operand) (P .immediate) (built .operand))
-      (operand-spells (built .rule) (opened n (narrowOf p) (repeatIn p) (numberOf o)) refl (built .operand) (built .size) (built .immediate)))
+      (operand-spells (built .rule) (opened n (narrowOf p) (repeatIn p) (opcodeNumber o)) refl (built .operand) (built .size) (built .immediate)))
 
   -- the whole instruction
   pub tree-spells : Spells tree (numbers P) (bytesOf P)

@@ -8,7 +8,7 @@ use Prim.Native.Nat.{ℕ, suc, _+_, _≤_}
 use native.Mathlib.Omega.{arith}
 use lib.ListN.{length, getD, length-append}
 use Rattle.grammar.specs.Choice.{pick, both}
-use Rattle.grammar.specs.Grammar.{Bytes, end, and, Prefixes, prefixBytes, narrowOf, repeatIn, Opcode, opcodeBytes, numberOf, Operand, absent, addressed, operandBytes, fieldOf, OperandFits, without, with, hasSib, sibLength, displacementLength, immediateLength, regOf, allows, allows66, bytesOf}
+use Rattle.grammar.specs.Grammar.{Bytes, end, and, Prefixes, prefixBytes, narrowOf, repeatIn, Opcode, opcodeBytes, opcodeNumber, Operand, absent, addressed, operandBytes, fieldOf, OperandFits, without, with, hasSib, sibLength, displacementLength, immediateLength, regOf, allows, allows66, bytesOf}
 use Rattle.width.specs.LittleEndian.{littleEndian}
 use Rattle.grammar.specs.Answers.{displaced, numbers, modrmOf, sibOf, displacementOf}
 use Rattle.grammar.specs.Reading.{done, none, bytesThen}
@@ -152,16 +152,16 @@ sib-length m sibs = let is = bytes-length sibs in let short = pick-one (hasSib m
 -- the numbers that the tree gathers are the instruction's
 module _ (p : Prefixes) (o : Opcode) (n : ℕ) (read-on : n ≡ length (prefixBytes p) + length (opcodeBytes o)) where
   pub gathered : {g : ModRM} (m : Operand) (is : List ℕ) → OperandFits g m
-      → full (opened n (narrowOf p) (repeatIn p) (numberOf o)) m is ≡ numbers (record { prefixes = p; opcode = o; operand = m; immediate = is })
+      → full (opened n (narrowOf p) (repeatIn p) (opcodeNumber o)) m is ≡ numbers (record { prefixes = p; opcode = o; operand = m; immediate = is })
   unfolding numbers bytesOf operandBytes modrmOf sibOf displacementOf displaced
   gathered absent is fits =
-      ap (λ (long : ℕ). closed (opened n (narrowOf p) (repeatIn p) (numberOf o)) long 0 (littleEndian is))
+      ap (λ (long : ℕ). closed (opened n (narrowOf p) (repeatIn p) (opcodeNumber o)) long 0 (littleEndian is))
       (let e : n + 0 + length is ≡ length (prefixBytes p ++ (opcodeBytes o ++ is)) = simp length-append (omega arith) in e)
   gathered (addressed m [] ds) is fits =
-      ap (λ (long : ℕ). closed (withModrm (opened n (narrowOf p) (repeatIn p) (numberOf o)) m) long (displaced ds) (littleEndian is))
+      ap (λ (long : ℕ). closed (withModrm (opened n (narrowOf p) (repeatIn p) (opcodeNumber o)) m) long (displaced ds) (littleEndian is))
       (let e : n + 1 + length ds + length is ≡ length (prefixBytes p ++ (opcodeBytes o ++ (m ∷ ds ++ is))) = simp length-append (omega arith) in e)
   gathered (addressed m (s ∷ []) ds) is fits =
       ap
-      (λ (long : ℕ). closed (withSib (withModrm (opened n (narrowOf p) (repeatIn p) (numberOf o)) m) (s ∷ [])) long (displaced ds) (littleEndian is))
+      (λ (long : ℕ). closed (withSib (withModrm (opened n (narrowOf p) (repeatIn p) (opcodeNumber o)) m) (s ∷ [])) long (displaced ds) (littleEndian is))
       (let e : n + 1 + 1 + length ds + length is ≡ length (prefixBytes p ++ (opcodeBytes o ++ (m ∷ s ∷ ds ++ is))) = simp length-append (omega arith) in e)
   gathered (addressed m (s ∷ t ∷ ss) ds) is (with small allowed sibs displaces) = absurd (let h = sib-length m sibs in omega arith)

@@ -7,7 +7,7 @@ use lib.Dec.{ltb}
 use lib.ListN.{length, getD, take}
 use Rattle.width.specs.LittleEndian.{littleEndian}
 use Rattle.grammar.specs.Choice.{pick}
-use Rattle.grammar.specs.Grammar.{Operand, absent, addressed, Parts, Instruction, bytesOf, numberOf, narrowOf, repeatIn}
+use Rattle.grammar.specs.Grammar.{Operand, absent, addressed, Parts, Instruction, bytesOf, opcodeNumber, narrowOf, repeatIn}
 use Rattle.grammar.specs.declared.instruction.Decoded.{Decoded}
 use Rattle.grammar.specs.declared.instruction.Found.{Found}
 
@@ -35,7 +35,7 @@ unfoldable pub numbers : Parts → Decoded
 numbers p =
     record {
       length = length (bytesOf p);
-      opcode = numberOf (p .opcode);
+      opcode = opcodeNumber (p .opcode);
       narrow = narrowOf (p .prefixes);
       repeat = repeatIn (p .prefixes);
       modrm = modrmOf (p .operand);

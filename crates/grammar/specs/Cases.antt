@@ -12,11 +12,11 @@ pub data Verdict : Type 0 where
   unknown : Verdict
   one : Verdict
 
-pub record Case : Type 0 where
+pub record BytesCase : Type 0 where
   pub bytes : List ℕ
   pub verdict : Verdict
 
-abbrev pub case : List ℕ → Verdict → Case
+abbrev pub case : List ℕ → Verdict → BytesCase
 case bytes verdict = record { bytes = bytes; verdict = verdict }
 
 -- cut; no such instruction; one instruction
@@ -26,12 +26,12 @@ Holds unknown bytes = Answers bytes Found.Unknown
 Holds one bytes = Instruction bytes
 
 -- each case holds
-unfoldable pub All : List Case → Type 0
+unfoldable pub All : List BytesCase → Type 0
 All [] = Unit {0}
 All (c ∷ cs) = Holds (c .verdict) (c .bytes) × All cs
 
 -- 66, 0F and F3 alone; 66 E8, 82, F3 90, 8D C0, 66 66; F3 66 A5 and 66 F3 A5
-unfoldable pub case13 : List Case
+unfoldable pub case13 : List BytesCase
 case13 =
     case (0x66 ∷ []) cut
     ∷ case (0x0F ∷ []) cut

@@ -11,7 +11,7 @@ use Rattle.grammar.specs.Opcodes.{ruleOf}
 use Rattle.grammar.specs.Grammar.{regOf, sibLength, displacementLength, immediateLength, allows, allows66, allowsRepeat}
 use Rattle.width.specs.LittleEndian.{littleEndian}
 use Rattle.grammar.specs.Answers.{displaced, Answers}
-use Rattle.grammar.specs.Reading.{Tree, done, none, byte, Outcome, whole, short, wrong, run, bytesThen}
+use Rattle.grammar.specs.Reading.{Tree, done, none, byte, Read, whole, short, wrong, run, bytesThen}
 use Rattle.grammar.specs.declared.rule.ModRM.{ModRM}
 use Rattle.grammar.specs.declared.rule.Immediate.{Immediate}
 use Rattle.grammar.specs.declared.rule.Repeat.{Repeat}
@@ -63,9 +63,9 @@ withSib d (s ∷ later) =
 
 -- with the whole length, the displacement and the immediate
 abbrev pub closed : Decoded → ℕ → ℕ → ℕ → Decoded
-closed d length displacement immediate =
+closed d size displacement immediate =
     record {
-      length = length;
+      length = size;
       opcode = d .opcode;
       narrow = d .narrow;
       repeat = d .repeat;
@@ -165,7 +165,7 @@ tree =
     (pick (eqb b 0xF3) (repeatTree Repeat.F3) (firstTree 0 false Repeat.Absent b))))
 
 -- what is found, by what reading gives
-unfoldable pub answer : Outcome Decoded → Found
+unfoldable pub answer : Read Decoded → Found
 answer (whole d rest) = Found.Instruction d
 answer short = Found.Cut
 answer wrong = Found.Unknown

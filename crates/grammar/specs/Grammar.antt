@@ -84,9 +84,9 @@ opcodeBytes (alone b) = b ∷ []
 opcodeBytes (after0F b) = 0x0F ∷ b ∷ []
 
 -- the opcode's number in the lists
-unfoldable pub numberOf : Opcode → ℕ
-numberOf (alone b) = b
-numberOf (after0F b) = 0x100 + b
+unfoldable pub opcodeNumber : Opcode → ℕ
+opcodeNumber (alone b) = b
+opcodeNumber (after0F b) = 0x100 + b
 
 -- the fields of a ModR/M byte, and a SIB byte's base
 abbrev pub modOf : ℕ → ℕ
@@ -204,7 +204,7 @@ bytesOf p = prefixBytes (p .prefixes) ++ (opcodeBytes (p .opcode) ++ (operandByt
 pub record Built (p : Parts) : Type 0 where
   pub rule : Rule
   pub opcode : opcodeByte (p .opcode) < 256
-  pub listed : ruleOf (numberOf (p .opcode)) ≡ Entry.Listed rule
+  pub listed : ruleOf (opcodeNumber (p .opcode)) ≡ Entry.Listed rule
   pub size : allows66 (rule .size) (narrowOf (p .prefixes)) (fieldOf (p .operand)) ≡ true
   pub repeat : allowsRepeat (rule .repeats) (repeatIn (p .prefixes)) ≡ true
   pub operand : OperandFits (rule .modrm) (p .operand)

@@ -12,13 +12,13 @@ pub data Tree (A : Type 0) : Type 0 where
   byte : (ℕ → Tree A) → Tree A
 
 -- what reading some bytes gives: a value and the bytes after it; the bytes end too early; or no value begins so
-pub data Outcome (A : Type 0) : Type 0 where
-  whole : A → List ℕ → Outcome A
-  short : Outcome A
-  wrong : Outcome A
+pub data Read (A : Type 0) : Type 0 where
+  whole : A → List ℕ → Read A
+  short : Read A
+  wrong : Read A
 
 -- a tree run over some bytes; a number of 256 or more is no byte
-unfoldable pub run : {A : Type 0} → Tree A → List ℕ → Outcome A
+unfoldable pub run : {A : Type 0} → Tree A → List ℕ → Read A
 run (done a) bytes = whole a bytes
 run none bytes = wrong
 run (byte f) [] = short

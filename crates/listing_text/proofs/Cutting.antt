@@ -7,7 +7,7 @@ use lib.ListN.{length, length-append}
 use lib.Seq.{drop-append-seam}
 use borrow.Author.Tests.{lt-ltb, le-ltb}
 use Rattle.grammar.specs.Choice.{pick}
-use Rattle.grammar.specs.Grammar.{Opcode, alone, after0F, opcodeByte, opcodeBytes, numberOf, Instruction, Cut, done, next}
+use Rattle.grammar.specs.Grammar.{Opcode, alone, after0F, opcodeByte, opcodeBytes, opcodeNumber, Instruction, Cut, done, next}
 use Rattle.grammar.specs.Answers.{numbers}
 use Rattle.grammar.proofs.Answered.{instruction-found}
 use Rattle.blockcheck.proofs.Cuts.{same-length}
@@ -16,8 +16,8 @@ use Rattle.text.proofs.Numbers.{hexadecimal-byte}
 use Rattle.listing_text.specs.Listing.{tab, newline, field, opcodeText, lineOf, lineThen, linesFrom, hexBytes, instructionLine, cutLines}
 
 -- an opcode's text is its bytes in capital hex
-opcode-hex : (o : Opcode) → opcodeByte o < 256 → opcodeText (numberOf o) ≡ hexBytes (opcodeBytes o)
-unfolding opcodeText pick numberOf opcodeBytes hexBytes
+opcode-hex : (o : Opcode) → opcodeByte o < 256 → opcodeText (opcodeNumber o) ≡ hexBytes (opcodeBytes o)
+unfolding opcodeText pick opcodeNumber opcodeBytes hexBytes
 opcode-hex (alone b) h = rw (lt-ltb b 0x100 h) (sym (append-nil (hexadecimal 2 b)))
 opcode-hex (after0F b) h =
     let joined : 0x0F00 + (0x100 + b) % 0x100 ≡ 256 * 0x0F + b = omega arith in

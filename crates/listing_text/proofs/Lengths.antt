@@ -9,13 +9,13 @@ use lib.Dec.{ltb}
 use lib.ListN.{length, take, drop, length-append}
 use borrow.Author.Tests.{lt-ltb}
 use Rattle.grammar.specs.Choice.{pick}
-use Rattle.grammar.specs.Grammar.{prefixBytes, Opcode, alone, after0F, opcodeByte, opcodeBytes, numberOf, operandBytes, Parts, bytesOf, Built, Instruction, Cut, done, next}
+use Rattle.grammar.specs.Grammar.{prefixBytes, Opcode, alone, after0F, opcodeByte, opcodeBytes, opcodeNumber, operandBytes, Parts, bytesOf, Built, Instruction, Cut, done, next}
 use Rattle.grammar.specs.Answers.{numbers}
 use Rattle.grammar.specs.Decoding.{decodeOf}
 use Rattle.grammar.specs.declared.instruction.Decoded.{Decoded}
 use Rattle.grammar.specs.declared.instruction.Found.{Found}
 use Rattle.grammar.proofs.Answered.{Standing, found-standing, found-inside, instruction-some}
-use Rattle.blockcheck.specs.Blocks.{numberOf as refusalNumber, valueOf, Astray, Reached, Judged, bad-length, bad-marks, cut-at, unknown-at, astray-at, accepted}
+use Rattle.blockcheck.specs.Blocks.{numberOf, valueOf, Astray, Reached, Judged, bad-length, bad-marks, cut-at, unknown-at, astray-at, accepted}
 use Rattle.blockcheck.specs.declared.Verdict.{Verdict}
 use Rattle.text.specs.Ascii.{ascii}
 use Rattle.text.specs.Digits.{hexadecimal}
@@ -48,13 +48,13 @@ unfolding opcodeText pick
 opcode-two k h = rw (lt-ltb k 0x100 h) (hexadecimal-length 2 k)
 
 -- an instruction of one byte has no 0F
-one-byte : (p : Parts) → Built p → length (bytesOf p) < 2 → numberOf (p .opcode) < 0x100
+one-byte : (p : Parts) → Built p → length (bytesOf p) < 2 → opcodeNumber (p .opcode) < 0x100
 unfolding bytesOf
 one-byte p built h = go (p .opcode) (built .opcode) h
   where
     go : (o : Opcode) → opcodeByte o < 256 → length (prefixBytes (p .prefixes) ++ (opcodeBytes o ++ (operandBytes (p .operand) ++ p .immediate))) < 2
-        → numberOf o < 0x100
-    go (alone b) small h = unfold numberOf in small
+        → opcodeNumber o < 0x100
+    go (alone b) small h = unfold opcodeNumber in small
     go (after0F b) small h = absurd (unfold opcodeBytes in omega (arith, simp length-append at h))
 
 -- a line has at most 12 bytes for each byte of its instruction
@@ -107,10 +107,10 @@ before-inside : {code rest : List ℕ} (r : Reached code rest) → length (r .be
 before-inside r = omega (arith, simp length-append at (ap length (r .joined)))
 
 -- a refusal's line is short
-refusal-short : (v : Verdict) → refusalNumber v < 100 → valueOf v ≤ 65536 → length (refusal v) ≤ 20
+refusal-short : (v : Verdict) → numberOf v < 100 → valueOf v ≤ 65536 → length (refusal v) ≤ 20
 unfolding refusal refusedWord ascii
 refusal-short v number offset =
-    simp length-append (omega (arith, field-short (refusalNumber v) tab (omega arith), field-short (valueOf v) newline offset))
+    simp length-append (omega (arith, field-short (numberOf v) tab (omega arith), field-short (valueOf v) newline offset))
 
 -- no text is longer than the longest
 pub text-short : {code marks marksAfter : List ℕ} {v : Verdict} → Judged code marks v marksAfter → length (textOf code v) ≤ longest

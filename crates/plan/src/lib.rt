@@ -114,8 +114,8 @@ pub fn operand_at(place: Place, a: u32, d: Decoded, w: Size) -> Operand
 pub fn next_of(m: Machine, d: Decoded) -> u32
     ensures { λ r. ⌜ r ≡ nextOf m d ⌝ }
 {
-    let length = (d.length % 0x1_0000_0000) as u64;
-    width::low(Size::Dword, m.eip as u64 + length)
+    let size = (d.length % 0x1_0000_0000) as u64;
+    width::low(Size::Dword, m.eip as u64 + size)
 }
 
 // The plan, from what the opcode means, its operation and its size.

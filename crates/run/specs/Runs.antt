@@ -52,17 +52,17 @@ unfoldable pub closed : Machine → Lent
 closed m = record { regs = m .regs; eip = m .eip; word = wordOf (m .flags) }
 
 -- what a run hands back, and the data that it leaves
-pub record Outcome : Type 0 where
+pub record HandedBack : Type 0 where
   pub ran : Ran
   pub area : List ℕ
 
 -- r and the data after are what the run hands back
-pub record Runs (o : Outcome) (r : Ran) (after : List ℕ) : Type 0 where
+pub record Runs (o : HandedBack) (r : Ran) (after : List ℕ) : Type 0 where
   pub is : r ≡ o .ran
   pub left : after ≡ o .area
 
 -- steps were taken
-unfoldable pub taken : Ended → Outcome
+unfoldable pub taken : Ended → HandedBack
 taken e =
     record {
       ran = record { machine = closed (e .machine); steps = e .steps; number = e .number; address = e .address };
@@ -70,11 +70,11 @@ taken e =
     }
 
 -- no step was taken: the machine and the data as handed in
-unfoldable pub refused : Lent → List ℕ → ℕ → Outcome
+unfoldable pub refused : Lent → List ℕ → ℕ → HandedBack
 refused l d n = record { ran = record { machine = l; steps = 0; number = n; address = 0 }; area = d }
 
 -- a run of a block
-unfoldable pub runOf : List ℕ → Lent → List ℕ → ℕ → Outcome
+unfoldable pub runOf : List ℕ → Lent → List ℕ → ℕ → HandedBack
 runOf code l d budget =
     cond (eqb (refusal (length code) (length d) (l .word) budget) 0) (taken (runFrom code budget (opened l) d 0))
     (refused l d (refusal (length code) (length d) (l .word) budget))

@@ -1,3 +1,3 @@
 -- What is shown of runs of accepted code. Assumes nothing.
-pub mod Settling
+pub mod Landings
 pub mod Safety

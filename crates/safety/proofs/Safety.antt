@@ -15,10 +15,10 @@ use Rattle.blockcheck.proofs.Starts.{zero-is-start}
 use Rattle.blockcheck.proofs.Verdicts.{accepted-acceptable}
 use Rattle.run.specs.declared.Lent.{Lent}
 use Rattle.run.specs.Steps.{Moved, next}
-use Rattle.run.specs.Runs.{Ended, Outcome, onMoved, runFrom, refusal, opened, taken, refused, runOf}
-use Rattle.safety.specs.Guidance.{Settled, at-start, indirectAt, Guided, Readable}
-use Rattle.safety.proofs.Settling.{early, late}
-use Rattle.safety.proofs.Settling.{chosen, Safe, goes, halts, step-safe}
+use Rattle.run.specs.Runs.{Ended, HandedBack, onMoved, runFrom, refusal, opened, taken, refused, runOf}
+use Rattle.safety.specs.Guidance.{Landed, at-start, indirectAt, Guided, Readable}
+use Rattle.safety.proofs.Landings.{early, late}
+use Rattle.safety.proofs.Landings.{chosen, Safe, goes, halts, step-safe}
 
 -- what is so with a truth value and without it is so
 decided : {P : Type 0} (b : Bool) → (b ≡ true → P) → (b ≡ false → P) → P
@@ -27,20 +27,20 @@ decided false x y = y refl
 
 -- where a run takes a safe step, its number is readable if that of the rest is, and that of a stop
 onward : {code : List ℕ} {m : Machine} {moved : Moved} → Safe code m moved → (go : Machine → List ℕ → Ended) (end : ℕ → ℕ → Ended)
-    → ((m′ : Machine) (d′ : List ℕ) → moved ≡ next m′ d′ → (indirectAt code m ≡ false → Settled code (m′ .eip)) → Readable ((go m′ d′) .number))
+    → ((m′ : Machine) (d′ : List ℕ) → moved ≡ next m′ d′ → (indirectAt code m ≡ false → Landed code (m′ .eip)) → Readable ((go m′ d′) .number))
     → ((n a : ℕ) → Readable n → Readable ((end n a) .number))
     → Readable ((onMoved moved go end) .number)
 unfolding onMoved
 onward (goes direct) go end rest last = rest _ _ refl direct
 onward (halts {n} {a} readable) go end rest last = last n a readable
 
--- a guided run of acceptable code from a settled address gives neither 3 nor 4
-guided-readable : {code : List ℕ} → Acceptable code → (b k : ℕ) (m : Machine) (d : List ℕ) → Settled code (m .eip) → Guided code b m d
+-- a guided run of acceptable code from a landed address gives neither 3 nor 4
+guided-readable : {code : List ℕ} → Acceptable code → (b k : ℕ) (m : Machine) (d : List ℕ) → Landed code (m .eip) → Guided code b m d
     → Readable ((runFrom code b m d k) .number)
 unfolding runFrom Guided
-guided-readable ok zero k m d settled guided = early 0 (omega arith)
-guided-readable {code} ok (suc b) k m d settled guided =
-    onward (step-safe ok m d settled) _ _
+guided-readable ok zero k m d landed guided = early 0 (omega arith)
+guided-readable {code} ok (suc b) k m d landed guided =
+    onward (step-safe ok m d landed) _ _
     (λ m′ d′ e direct. guided-readable ok b (suc k) m′ d′ (decided (indirectAt code m) (guided m′ d′ e .0) direct) (guided m′ d′ e .1))
     (λ n a readable. readable)
 
@@ -54,17 +54,17 @@ refusal-readable code-length data-length word budget =
     chosen Readable (eqb code-length 0 || ltb 65_536 code-length) (late 10 (omega arith)) by-data
 
 module _ {code marks after : List ℕ} {count : ℕ} (judged : Judged code marks (Verdict.Accepted count) after) where
-  -- from a settled address, no number of steps of accepted code gives 3 or 4
-  pub never-unreadable : (m : Machine) (d : List ℕ) → Settled code (m .eip) → (b k : ℕ) → Guided code b m d
+  -- from a landed address, no number of steps of accepted code gives 3 or 4
+  pub never-unreadable : (m : Machine) (d : List ℕ) → Landed code (m .eip) → (b k : ℕ) → Guided code b m d
       → Readable ((runFrom code b m d k) .number)
-  never-unreadable m d settled b k guided = guided-readable (accepted-acceptable judged) b k m d settled guided
+  never-unreadable m d landed b k guided = guided-readable (accepted-acceptable judged) b k m d landed guided
 
   module _ (l : Lent) (d : List ℕ) (budget : ℕ) (guided : Guided code budget (opened l) d) where
     -- no run of accepted code that starts at a start gives 3 or 4
     pub run-from-start : (s : ℕ) → Start code s → l .eip ≡ codeBase + s → Readable ((runOf code l d budget) .ran .number)
     unfolding runOf taken refused opened
     run-from-start s start at =
-        chosen (λ (o : Outcome). Readable (o .ran .number)) (eqb (refusal (length code) (length d) (l .word) budget) 0)
+        chosen (λ (o : HandedBack). Readable (o .ran .number)) (eqb (refusal (length code) (length d) (l .word) budget) 0)
         (never-unreadable (opened l) d (at-start start at) budget 0 guided)
         (refusal-readable (length code) (length d) (l .word) budget)
 

@@ -13,10 +13,10 @@ use Rattle.effect.specs.Ways.{indirect}
 use Rattle.run.specs.Steps.{next, home, inside, stepOf}
 
 -- an address is a start's, the ending address (home) or outside the code
-pub data Settled (code : List ℕ) (a : ℕ) : Type 0 where
-  at-start : {s : ℕ} → Start code s → a ≡ codeBase + s → Settled code a
-  at-home : a ≡ home → Settled code a
-  outside : inside code a ≡ false → Settled code a
+pub data Landed (code : List ℕ) (a : ℕ) : Type 0 where
+  at-start : {s : ℕ} → Start code s → a ≡ codeBase + s → Landed code a
+  at-home : a ≡ home → Landed code a
+  outside : inside code a ≡ false → Landed code a
 
 -- what is found is a return, or a jump or call through a register or memory
 unfoldable pub indirectFound : Found → Machine → Bool
@@ -33,7 +33,7 @@ unfoldable pub Guided : List ℕ → ℕ → Machine → List ℕ → Type 0
 Guided code zero m d = Unit
 Guided code (suc b) m d =
     (m′ : Machine) (d′ : List ℕ) → stepOf code m d ≡ next m′ d′
-    → (indirectAt code m ≡ true → Settled code (m′ .eip)) × Guided code b m′ d′
+    → (indirectAt code m ≡ true → Landed code (m′ .eip)) × Guided code b m′ d′
 
 -- a number that comes back is neither 3 (cut) nor 4 (no such instruction)
 pub record Readable (number : ℕ) : Type 0 where

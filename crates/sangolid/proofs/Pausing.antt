@@ -8,7 +8,7 @@ use lib.Seq.{take-all}
 use borrow.Author.Tests.{eq-eqb}
 use Rattle.run.specs.declared.Lent.{Lent}
 use Rattle.run.specs.declared.Ran.{Ran}
-use Rattle.run.specs.Runs.{Outcome, runOf}
+use Rattle.run.specs.Runs.{HandedBack, runOf}
 use Rattle.run.proofs.Kept.{registers-kept}
 use Rattle.run.specs.Pausing.{Joined}
 use Rattle.run.proofs.Law.{law}
@@ -29,7 +29,7 @@ unfolding lentOf
 eight-back state code d budget = registers-kept code (lentOf state) d budget
 
 -- runs that join are calls that continue
-continues : {first second whole : Outcome} → Joined first second whole → Continues (called first) (called second) (called whole)
+continues : {first second whole : HandedBack} → Joined first second whole → Continues (called first) (called second) (called whole)
 unfolding called stateOf
 continues joined =
     record {

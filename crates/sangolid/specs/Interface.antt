@@ -7,7 +7,7 @@ use lib.Dec.{eqb}
 use lib.ListN.{length, getD}
 use Rattle.run.specs.declared.Lent.{Lent}
 use Rattle.run.specs.declared.Ran.{Ran}
-use Rattle.run.specs.Runs.{Outcome, runOf}
+use Rattle.run.specs.Runs.{HandedBack, runOf}
 use Rattle.blockcheck.specs.declared.Verdict.{Verdict}
 use Rattle.blockcheck.specs.Blocks.{numberOf, valueOf, Judged}
 
@@ -48,7 +48,7 @@ pub record Call : Type 0 where
   pub area : List ℕ
 
 -- the run was called
-unfoldable pub called : Outcome → Call
+unfoldable pub called : HandedBack → Call
 called o = record { number = o .ran .number; state = stateOf (o .ran); area = o .area }
 
 -- a call with a state of 12 words runs the block; any other changes nothing

@@ -6,7 +6,7 @@ use Prim.Native.Nat.{ℕ}
 use lib.Dec.{ltb}
 use borrow.Author.Tests.{ltb-true, ltb-false}
 use Rattle.grammar.specs.Opcodes.{lists, forms}
-use Rattle.grammar.specs.Grammar.{Parts, Built, numberOf}
+use Rattle.grammar.specs.Grammar.{Parts, Built, opcodeNumber}
 use Rattle.grammar.proofs.Below.{values, carried}
 use Rattle.grammar.proofs.Entries.{says-other, ruled-listed, NoneOf, not-listed, ends, lists-past}
 use Rattle.sense.specs.declared.Kind.{Kind}
@@ -38,5 +38,5 @@ meant-exactly k = by (ltb k 512) refl
         lists-past senses 512 k tt past ∙ sym (lists-past forms 512 k tt past)
 
 -- so the opcode of each instruction has a meaning of its own
-pub instruction-meant : {p : Parts} → Built p → lists senses (numberOf (p .opcode)) ≡ true
-instruction-meant {p} built = meant-exactly (numberOf (p .opcode)) ∙ ruled-listed (numberOf (p .opcode)) (built .listed)
+pub instruction-meant : {p : Parts} → Built p → lists senses (opcodeNumber (p .opcode)) ≡ true
+instruction-meant {p} built = meant-exactly (opcodeNumber (p .opcode)) ∙ ruled-listed (opcodeNumber (p .opcode)) (built .listed)

@@ -1,4 +1,4 @@
--- A step of acceptable code from a settled address goes on to a settled one, or stops with neither 3 nor 4. Assumes nothing.
+-- A step of acceptable code from a landed address goes on to a landed one, or stops with neither 3 nor 4. Assumes nothing.
 use mathlib.Core.Path.{_≡_, refl, ap, _∙_}
 use mathlib.Core.Logic.{⊎-elim}
 use mathlib.Core.Bool.{Bool, true, false, cond}
@@ -27,7 +27,7 @@ use Rattle.effect.specs.declared.outcome.Effect.{Effect}
 use Rattle.effect.proofs.Ways.{Way, stays, falls, way}
 use Rattle.run.specs.Steps.{Moved, next, stop, home, inside, executed, stepOf}
 use Rattle.run.proofs.Places.{at-home, in-code}
-use Rattle.safety.specs.Guidance.{Settled, at-start, outside, indirectFound, indirectAt, Readable}
+use Rattle.safety.specs.Guidance.{Landed, at-start, outside, indirectFound, indirectAt, Readable}
 use Rattle.run.proofs.Planned.{Comes, goes-on, stops, planned-comes}
 
 -- what holds of both of two things holds of the one chosen
@@ -43,9 +43,9 @@ early n h = record { not-cut = λ e. omega arith; not-unknown = λ e. omega arit
 pub late : (n : ℕ) → 5 ≤ n → Readable n
 late n h = record { not-cut = λ e. omega arith; not-unknown = λ e. omega arith }
 
--- a step goes on to a settled address, unless through a register or memory, or it stops with neither 3 nor 4
+-- a step goes on to a landed address, unless through a register or memory, or it stops with neither 3 nor 4
 pub data Safe (code : List ℕ) (m : Machine) : Moved → Type 0 where
-  goes : {m′ : Machine} {d′ : List ℕ} → (indirectAt code m ≡ false → Settled code (m′ .eip)) → Safe code m (next m′ d′)
+  goes : {m′ : Machine} {d′ : List ℕ} → (indirectAt code m ≡ false → Landed code (m′ .eip)) → Safe code m (next m′ d′)
   halts : {n a : ℕ} → Readable n → Safe code m (stop n a)
 
 -- EIP wraps at 2^32
@@ -72,33 +72,33 @@ module _ {code : List ℕ} (ok : Acceptable code) (m : Machine) {i : ℕ} (start
       let ends = found-inside code i x found in
       rw (wraps, at) (omega arith)
 
-  -- the next instruction's address is settled
-  next-settled : Settled code (nextOf m x)
-  next-settled =
+  -- the next instruction's address is landed
+  next-landed : Landed code (nextOf m x)
+  next-landed =
       rw next-address
       (⊎-elim (λ s. at-start s refl) (λ e. outside (rw e (end-outside code))) (falls-through start x found))
 
   -- so is where the displacement leads
-  target-settled : (by : Relative) → relativeOf x ≡ by → Settled code (leads by (nextOf m x))
+  target-landed : (by : Relative) → relativeOf x ≡ by → Landed code (leads by (nextOf m x))
   unfolding leads targetOf
-  target-settled Relative.Absent e = next-settled
-  target-settled (Relative.By y) e =
+  target-landed Relative.Absent e = next-landed
+  target-landed (Relative.By y) e =
       let (s, lands, address) = displacement-lands start x found ok y e in
       at-start lands (rw (next-address, wraps) (ap (λ (n : ℕ). n % 2 ^ 32) (omega arith) ∙ address))
 
   -- so is the address after any effect that does not go through a register or memory
-  way-settled : {e : Effect} → Way m (planOf m x) e → Settled code (e .machine .eip)
+  way-landed : {e : Effect} → Way m (planOf m x) e → Landed code (e .machine .eip)
   unfolding planOf planFor
-  way-settled (stays e) = at-start start (e ∙ at)
-  way-settled (falls e) = rw e next-settled
-  way-settled (Way.leads e) = rw e (target-settled (relativeOf x) refl)
+  way-landed (stays e) = at-start start (e ∙ at)
+  way-landed (falls e) = rw e next-landed
+  way-landed (Way.leads e) = rw e (target-landed (relativeOf x) refl)
 
   -- the step of the instruction is safe
   comes-safe : {d : List ℕ} {moved : Moved} → Comes (planOf m x) m d moved → Safe code m moved
   unfolding indirectAt indirectFound codeBase
   comes-safe (goes-on r s l) =
       let place : m .eip - codeBase ≡ i = omega arith in
-      goes (λ direct. way-settled (way ((planOf m x) .operation) m (planOf m x) r s (rw (place, found) at direct)))
+      goes (λ direct. way-landed (way ((planOf m x) .operation) m (planOf m x) r s (rw (place, found) at direct)))
   comes-safe (stops n low high) = halts (late n low)
 
 module _ {code : List ℕ} (ok : Acceptable code) (m : Machine) (d : List ℕ) where
@@ -107,8 +107,8 @@ module _ {code : List ℕ} (ok : Acceptable code) (m : Machine) (d : List ℕ) w
   unfolding stepOf
   outside-safe e = rw e (chosen (Safe code m) (eqb (m .eip) home) (halts (early 1 (omega arith))) (halts (early 2 (omega arith))))
 
-  -- from a settled address every step is safe
-  pub step-safe : Settled code (m .eip) → Safe code m (stepOf code m d)
+  -- from a landed address every step is safe
+  pub step-safe : Landed code (m .eip) → Safe code m (stepOf code m d)
   unfolding home codeBase executed
   step-safe (at-start {s} start at) =
       let (x, found, ends) = start-decodes start in
@@ -117,5 +117,5 @@ module _ {code : List ℕ} (ok : Acceptable code) (m : Machine) (d : List ℕ) w
       let place : m .eip - codeBase ≡ s = omega arith in
       rw (in-code code m d (λ e. omega arith) (omega arith) (omega arith), place, found)
       (comes-safe ok m start at x found (planned-comes (planOf m x) m d))
-  step-safe (Settled.at-home e) = rw (at-home code m d e) (halts (early 1 (omega arith)))
+  step-safe (Landed.at-home e) = rw (at-home code m d e) (halts (early 1 (omega arith)))
   step-safe (outside e) = outside-safe e
