@@ -1,4 +1,4 @@
--- BlockCase 14 of document 01 holds of the block check's rules. Assumes nothing.
+-- Case 14 of document 01 holds of the block check's rules. Assumes nothing.
 use mathlib.Core.Path.{_≡_, refl, ap, sym, _∙_, subst}
 use mathlib.Core.Logic.{inl, ⊎-elim}
 use mathlib.Core.Bool.{false}
