@@ -2,4 +2,5 @@
 pub mod Magnitudes
 pub mod Squares
 pub mod Extension
+pub mod Spilling
 pub mod Cases
