@@ -15,13 +15,13 @@ use Rattle.width.proofs.Differences.{is-negsuc, natural}
 use Rattle.width.proofs.Widths.{Numbers, numbers, rest-below, outside-of}
 
 -- a natural is no signed number of the size if it is half at least
-pub outside-pos : (w : Size) (n : ℕ) → outside w (pos n) ≡ leb (half w) n
+outside-pos : (w : Size) (n : ℕ) → outside w (pos n) ≡ leb (half w) n
 outside-pos w n =
     ap (outside w) (natural n) ∙ outside-of w n 0
     ∙ rw (le-ltb n 0 (omega arith)) (ap (leb (half w)) (omega arith))
 
 -- an integer below zero is none if it lies further below than half
-pub outside-negsuc : (w : Size) (n : ℕ) → outside w (negsuc n) ≡ ltb (half w) (suc n)
+outside-negsuc : (w : Size) (n : ℕ) → outside w (negsuc n) ≡ ltb (half w) (suc n)
 outside-negsuc w n =
     ap (outside w) (sym (is-negsuc 0 (suc n) n (omega arith))) ∙ outside-of w 0 (suc n)
     ∙ rw (lt-ltb 0 (suc n) (omega arith)) (ap (ltb (half w)) (omega arith))

@@ -2,5 +2,4 @@
 pub mod Magnitudes
 pub mod Squares
 pub mod Extension
-pub mod Spilling
 pub mod Cases

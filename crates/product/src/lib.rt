@@ -155,12 +155,11 @@ pub fn imul(w: Size, a: u32, b: u32) -> Product
     halves(w, complement(signed_product(w, a, b)))
 }
 
-// Does IMUL set CF and OF? Where the high half is not filled with the low half's sign.
+// Does IMUL set CF and OF?
 pub fn imul_spills(w: Size, a: u32, b: u32) -> bool
     ensures { λ r. ⌜ r ≡ signedSpills w a b ⌝ }
 {
-    let p = imul(w, a, b);
-    p.high != width::sign_filled(w, p.low)
+    outside(w, signed_product(w, a, b))
 }
 
 // The flags after a product.
