@@ -17,17 +17,17 @@ use Rattle.arith.specs.Binary.{binaryValue, binaryFlags, sumFlags}
 use Rattle.arith.specs.Single.{singleValue, singleFlags}
 
 -- a value and a flags word that are computed, and those that the document gives
-record Case : Type 0 where
+record ResultCase : Type 0 where
   value : ℕ
   word : ℕ
   given-value : ℕ
   given-word : ℕ
 
-abbrev Holds : List Case → Type 0
+abbrev Holds : List ResultCase → Type 0
 Holds [] = Unit
 Holds (k ∷ ks) = (k .value ≡ k .given-value) × (k .word ≡ k .given-word) × Holds ks
 
-abbrev cases : List Case
+abbrev cases : List ResultCase
 cases =
     -- 04 01, AL = FFh: AL 00h, flags 0057h
     record {

@@ -1,7 +1,8 @@
 // The seven flags as a value, the flags word that they are packed in, the conditions on them, and the policy for an undefined flag.
 ghost use mathlib.Core.Path.{_≡_};
+ghost use Prim.Native.Nat.{_*_, _<_};
 ghost use Rattle.flags.specs.Word.{Word, AhWord, flagsOf, passes, fromAh};
-ghost use Rattle.flags.specs.Conditions.{meets, even};
+ghost use Rattle.flags.specs.Conditions.{meets};
 ghost use Rattle.flags.specs.Results.{undefinedFlag, parity, resulting};
 use width::Size;
 
@@ -96,9 +97,10 @@ pub fn resulting(w: Size, v: u32, cf: bool, af: bool, of: bool, old: Flags) -> F
     }
 }
 
-// The condition with an even number, 2 * n.
+// Do the flags meet the condition with the number 2 * n? The one after it is its opposite.
 fn even(n: u32, f: Flags) -> bool
-    ensures { λ r. ⌜ r ≡ even n f ⌝ }
+    requires { ⌜ n < 8 ⌝ }
+    ensures { λ r. ⌜ r ≡ meets (2 * n) f ⌝ }
 {
     match n {
         0 => f.of,
@@ -108,8 +110,7 @@ fn even(n: u32, f: Flags) -> bool
         4 => f.sf,
         5 => f.pf,
         6 => f.sf != f.of,
-        7 => f.zf || f.sf != f.of,
-        _ => false,
+        _ => f.zf || f.sf != f.of,
     }
 }
 

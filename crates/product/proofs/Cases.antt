@@ -10,21 +10,21 @@ use Rattle.product.specs.declared.Division.the-variants.{Parts, Fault}
 use Rattle.product.specs.Divide.{joined, divided, dividedUnsigned, dividedSigned, unsignedDivision, signedDivision}
 
 -- a division at 32 bits, and what it answers
-pub data Case : Type 0 where
-  DIV IDIV : (edx eax ecx : ℕ) → Division → Case
+pub data DivisionCase : Type 0 where
+  DIV IDIV : (edx eax ecx : ℕ) → Division → DivisionCase
 
 -- the specification answers as the case says
-unfoldable pub Holds : Case → Type 0
+unfoldable pub Holds : DivisionCase → Type 0
 Holds (DIV edx eax ecx answer) = unsignedDivision Dword edx eax ecx ≡ answer
 Holds (IDIV edx eax ecx answer) = signedDivision Dword edx eax ecx ≡ answer
 
 -- all cases of a list hold
-unfoldable pub All : List Case → Type 0
+unfoldable pub All : List DivisionCase → Type 0
 All [] = Unit
 All (c ∷ cs) = Holds c × All cs
 
 -- cases 4, 5 and 6
-unfoldable pub cases : List Case
+unfoldable pub cases : List DivisionCase
 cases =
     DIV 0x0000_0001 0x0000_0000 0x0000_0001 Fault
     ∷ IDIV 0x8000_0000 0x0000_0000 0xFFFF_FFFF Fault

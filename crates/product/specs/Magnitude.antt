@@ -1,4 +1,4 @@
--- Signed numbers by sign and magnitude, as the functions on the way have them. Assumes nothing.
+-- Signed numbers by sign and magnitude, for the contracts of private functions alone. Assumes nothing.
 use mathlib.Core.Path.{_≡_}
 use mathlib.Core.Bool.{Bool, cond}
 use Prim.Native.Nat.{ℕ, _*_, _<_, _≤_}

@@ -129,7 +129,7 @@ fn fetch(reads: Reads, area: &[u8]) -> Fetched
             second: other,
         } => match machine::memory::load(area, size, first) {
             Loaded::Value(r) => fetch_second(area, r, size, other),
-            Loaded::Outside(a) => Fetched::Outside(a),
+            Loaded::Outside(b) => Fetched::Outside(b),
         },
     }
 }

@@ -27,14 +27,14 @@ use Rattle.shift.specs.Changes.{
 use Rattle.shift.proofs.Turns.{turned-round}
 
 -- an instruction on AL by a count
-pub data Case : Type 0 where
+pub data ShiftCase : Type 0 where
   -- from this AL and flags word to this AL and flags word
-  gives : (op : Shift) (count al word al-after word-after : ℕ) → Case
+  gives : (op : Shift) (count al word al-after word-after : ℕ) → ShiftCase
   -- AL and the flags stay, whatever they are
-  keeps : (op : Shift) (count : ℕ) → Case
+  keeps : (op : Shift) (count : ℕ) → ShiftCase
 
 -- the specifications say what the case says
-unfoldable pub Holds : Case → Type 0
+unfoldable pub Holds : ShiftCase → Type 0
 Holds (gives op count al word al-after word-after) =
     (shiftValue op Byte al count (flagsOf word .cf) ≡ al-after)
     × (wordOf (shiftFlags op Byte al count (flagsOf word)) ≡ word-after)
@@ -44,12 +44,12 @@ Holds (keeps op count) =
     → (shiftValue op Byte al count (f .cf) ≡ al) × (shiftFlags op Byte al count f ≡ f)
 
 -- each case of a table
-unfoldable pub All : List Case → Type 0
+unfoldable pub All : List ShiftCase → Type 0
 All [] = Unit
 All (c ∷ cs) = Holds c × All cs
 
 -- D0 C0; C0 D0 09; C0 C0 08
-unfoldable pub cases : List Case
+unfoldable pub cases : List ShiftCase
 cases = gives Rol 1 0x80 0x0002 0x01 0x0803 ∷ keeps Rcl 9 ∷ gives Rol 8 0x01 0x0002 0x01 0x0003 ∷ []
 
 -- nine bits turned by nine stay, so AL and CF do

@@ -1,4 +1,4 @@
--- What the parts of a shift give, each with its bound. Assumes nothing.
+-- What the parts of a shift give, each with its bound, for the contracts of private functions alone. Assumes nothing.
 use mathlib.Core.Path.{_≡_}
 use mathlib.Core.Bool.{Bool}
 use Prim.Native.Nat.{ℕ, _+_, _%_, _^_, _<_}

@@ -1,17 +1,17 @@
 -- What the three sizes have in common, and the laws of rest and signed meaning at a size. Assumes nothing.
-use mathlib.Core.Path.{_≡_, refl, sym, ap}
+use mathlib.Core.Path.{_≡_, refl, sym, ap, _∙_}
 use mathlib.Core.Bool.{false, cond, or-false}
 use Prim.Native.Nat.{ℕ, suc, _+_, _-_, _*_, _/_, _^_, _<_, _≤_}
 use native.Mathlib.Omega.{arith}
 use lib.Dec.{ltb, leb, leb·suc-suc}
-use lib.IntN.{ℤ, pos, negsuc, negℤ, subℕ}
+use lib.IntN.{ℤ, pos, negsuc, negℤ, natAbs, subℕ, _+ℤ_}
 use lib.Signed.{ltZ}
 use borrow.Author.Tests.{lt-ltb, le-ltb}
 use Rattle.width.specs.declared.Size.{Size}
 use Rattle.width.specs.declared.Size.the-variants.{Byte, Word, Dword}
 use Rattle.width.specs.Sizes.{bits, modulus, half}
 use Rattle.width.specs.Numbers.{residue, rest, meaning, signed, outside, Ranked, signExtended}
-use Rattle.width.proofs.Differences.{Sign, up, down, sign, is-pos, is-negsuc, same, residue-of, residue-below}
+use Rattle.width.proofs.Differences.{Sign, up, down, sign, is-pos, is-negsuc, same, added, residue-of, residue-below}
 
 -- a size's numbers: with them its modulus and half are plain unknowns to arithmetic
 pub record Numbers (w : Size) : Type 0 where
@@ -60,6 +60,14 @@ ranked-high w v b h =
       meant = rw (le-ltb v (half w) h) (same v (half w + half w) (v - half w) (half w) (omega arith));
       below = omega arith;
     }
+
+-- a number has one rank
+pub rank-unique : (w : Size) (v : ℕ) {r s : ℕ} → Ranked w v r → Ranked w v s → r ≡ s
+rank-unique w v a b = ap natAbs (above _ ∙ ap (λ (z : ℤ). z +ℤ subℕ (half w) 0) (sym (a .meant) ∙ b .meant) ∙ sym (above _))
+  where
+    -- a rank is what its number means, and half above
+    above : (r : ℕ) → pos r ≡ subℕ r (half w) +ℤ subℕ (half w) 0
+    above r = sym (added r (half w) (half w) 0 ∙ is-pos (r + half w) (half w + 0) r (omega arith))
 
 -- extension by sign, from the rank
 pub extended : (from to : Size) (v r : ℕ) → Ranked from v r → rest to (pos (r + 2 ^ 33 - half from)) ≡ signExtended from to v

@@ -25,7 +25,7 @@ returns-4 c =
 
 returns-5 : tie.Need-returns-5
 unfolding performed loaded fetched
-returns-5 c = record { is = λ p m. rw (c .before .before .before .before .before .reads2 .given .1, sym (c .before .before .before .load2 .ensures) ∙ c .before .a2 .given .1) }
+returns-5 c = record { is = λ p m. rw (c .before .before .before .before .before .reads2 .given .1, sym (c .before .before .before .load2 .ensures) ∙ c .before .b .given .1) }
 
 pub fetch-spec : {M : Type 1} → statement M
 fetch-spec =
