@@ -78,7 +78,7 @@ pub data Case : Type 0 where
 unfoldable pub Holds : Case → Type 0
 Holds (run c) = Gives c
 Holds (keeps code) = Keeps code
-Holds (bytes c) = Bytes.Holds (c .verdict) (c .bytes)
+Holds (bytes c) = Bytes.Holds (c .says) (c .bytes)
 Holds (block c) = (marks : List ℕ) → length marks ≡ length (c .code) → Blocks.Holds c marks
 
 -- each line of a table holds

@@ -14,13 +14,13 @@ use Rattle.width.specs.LittleEndian.{littleEndian}
 use Rattle.grammar.specs.Answers.{displaced}
 use Rattle.grammar.specs.Reading.{run, bytesThen}
 use Rattle.grammar.specs.Decoding.{tailTree, addressTree, modrmTree, operandTree, accepts, entryTree, opcodeTree, some, acceptsEntry, escapes, escapeTree, firstTree, sizeTree, repeatTree, tree, answer, found, decodeOf}
-use Rattle.grammar.specs.Cases.{Verdict, cut, unknown, one, BytesCase, Holds, All, case13}
+use Rattle.grammar.specs.Cases.{Saying, cut, unknown, one, BytesCase, Holds, All, case13}
 use Rattle.grammar.specs.declared.instruction.Found.{Found}
 use Rattle.grammar.proofs.Below.{both-left, both-right}
 use Rattle.grammar.proofs.Answered.{decode-answers, found-standing}
 
 -- what is found is as the verdict says, of n bytes
-agrees : Verdict → ℕ → Found → Bool
+agrees : Saying → ℕ → Found → Bool
 agrees cut n (Found.Instruction d) = false
 agrees cut n Found.Cut = true
 agrees cut n Found.Unknown = false
@@ -32,7 +32,7 @@ agrees one n Found.Cut = false
 agrees one n Found.Unknown = false
 
 -- so the verdict holds of the grammar
-holds : (v : Verdict) (bytes : List ℕ) (r : Found) → decodeOf bytes 0 ≡ r → T (agrees v (length bytes) r) → Holds v bytes
+holds : (v : Saying) (bytes : List ℕ) (r : Found) → decodeOf bytes 0 ≡ r → T (agrees v (length bytes) r) → Holds v bytes
 unfolding agrees Holds
 holds cut bytes Found.Cut e t = rw e at (decode-answers bytes 0)
 holds unknown bytes Found.Unknown e t = rw e at (decode-answers bytes 0)
@@ -49,15 +49,15 @@ holds one bytes Found.Unknown e t = absurd t
 -- all of a table agrees
 test : List BytesCase → Bool
 test [] = true
-test (c ∷ cs) = both (agrees (c .verdict) (length (c .bytes)) (decodeOf (c .bytes) 0)) (test cs)
+test (c ∷ cs) = both (agrees (c .says) (length (c .bytes)) (decodeOf (c .bytes) 0)) (test cs)
 
 -- so all of it holds
 tested : (cs : List BytesCase) → T (test cs) → All cs
 unfolding test All
 tested [] t = tt
 tested (c ∷ cs) t =
-    let first = agrees (c .verdict) (length (c .bytes)) (decodeOf (c .bytes) 0) in
-    (holds (c .verdict) (c .bytes) (decodeOf (c .bytes) 0) refl (both-left first (test cs) t), tested cs (both-right first (test cs) t))
+    let first = agrees (c .says) (length (c .bytes)) (decodeOf (c .bytes) 0) in
+    (holds (c .says) (c .bytes) (decodeOf (c .bytes) 0) refl (both-left first (test cs) t), tested cs (both-right first (test cs) t))
 
 -- the table of case 13 agrees
 passes : T (test case13)

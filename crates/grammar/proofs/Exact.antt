@@ -11,7 +11,7 @@ use lib.Dec.{eqb}
 use lib.ListN.{length}
 use borrow.Author.Tests.{eqb-true, ne-eqb}
 use Rattle.grammar.specs.Opcodes.{ruleOf}
-use Rattle.grammar.specs.Grammar.{Instruction, fieldOf, Repeating, F2, F3, repeatingByte, repeatOf, Prefixes, plain, size, repeated, size-repeated, repeated-size, prefixBytes, narrowOf, repeatIn, Opcode, alone, after0F, opcodeByte, opcodeBytes, opcodeNumber, Operand, operandBytes, allows66, allowsRepeat, Parts, bytesOf, Built}
+use Rattle.grammar.specs.Grammar.{Instruction, fieldOf, RepeatPrefix, F2, F3, repeatByte, repeatOf, Prefixes, plain, size, repeated, size-repeated, repeated-size, prefixBytes, narrowOf, repeatIn, Opcode, alone, after0F, opcodeByte, opcodeBytes, opcodeNumber, Operand, operandBytes, allows66, allowsRepeat, Parts, bytesOf, Built}
 use Rattle.grammar.specs.Answers.{numbers}
 use Rattle.grammar.specs.Reading.{none, byte}
 use Rattle.grammar.specs.Decoding.{opened, operandTree, accepts, acceptsEntry, entryTree, opcodeTree, escapes, escapeTree, firstTree, sizeTree, repeatTree, tree}
@@ -121,7 +121,7 @@ behind p b =
 
 -- what follows 66
 spells-size : {x : Decoded} {bytes : List ℕ} → Spells sizeTree x bytes → Spelled x (0x66 ∷ bytes)
-unfolding sizeTree prefixBytes narrowOf repeatIn repeatOf repeatingByte
+unfolding sizeTree prefixBytes narrowOf repeatIn repeatOf repeatByte
 spells-size (read {b} small s) =
     ⊎-elim (λ t. rw (eqb-true b 0xF2 (t .0)) (behind (size-repeated F2) (spells-first (size-repeated F2) (t .1))))
     (λ t.
@@ -131,7 +131,7 @@ spells-size (read {b} small s) =
     (pick-spells (eqb b 0xF2) _ _ s)
 
 -- what follows F2 or F3
-spells-repeat : (r : Repeating) {x : Decoded} {bytes : List ℕ} → Spells (repeatTree (repeatOf r)) x bytes → Spelled x (repeatingByte r ∷ bytes)
+spells-repeat : (r : RepeatPrefix) {x : Decoded} {bytes : List ℕ} → Spells (repeatTree (repeatOf r)) x bytes → Spelled x (repeatByte r ∷ bytes)
 unfolding repeatTree prefixBytes narrowOf repeatIn
 spells-repeat r (read {b} small s) =
     ⊎-elim (λ t. rw (eqb-true b 0x66 (t .0)) (behind (repeated-size r) (spells-first (repeated-size r) (t .1))))
@@ -140,7 +140,7 @@ spells-repeat r (read {b} small s) =
 
 -- what the tree spells is an instruction
 pub spells-tree : {x : Decoded} {bytes : List ℕ} → Spells tree x bytes → Spelled x bytes
-unfolding tree prefixBytes narrowOf repeatIn repeatOf repeatingByte
+unfolding tree prefixBytes narrowOf repeatIn repeatOf repeatByte
 spells-tree (read {b} small s) =
     ⊎-elim (λ t. rw (eqb-true b 0x66 (t .0)) (spells-size (t .1)))
     (λ t.
@@ -190,8 +190,8 @@ first-spells n narrow repeat (after0F b) {rule} small listed accepted s =
     (read small (opcode-spells (n + 1 + 1) narrow repeat (0x100 + b) listed accepted (rw (add-assoc n 1 1) s))))
 
 -- F2 or F3 and what follows it
-repeat-spells : (r : Repeating) {x : Decoded} {bytes : List ℕ} → Spells (repeatTree (repeatOf r)) x bytes → Spells tree x (repeatingByte r ∷ bytes)
-unfolding tree repeatOf repeatingByte
+repeat-spells : (r : RepeatPrefix) {x : Decoded} {bytes : List ℕ} → Spells (repeatTree (repeatOf r)) x bytes → Spells tree x (repeatByte r ∷ bytes)
+unfolding tree repeatOf repeatByte
 repeat-spells F2 s = read {b = 0xF2} (omega arith) (spells-no _ refl (spells-yes _ refl s))
 repeat-spells F3 s = read {b = 0xF3} (omega arith) (spells-no _ refl (spells-no _ refl (spells-yes _ refl s)))
 
@@ -208,7 +208,7 @@ module _ (o : Opcode) (rule : Rule) (small : opcodeByte o < 256) (listed : ruleO
 
   prefix-spells : (p : Prefixes) {x : Decoded} {bytes : List ℕ}
       → Spells (firstTree (length (prefixBytes p)) (narrowOf p) (repeatIn p) (lead o)) x bytes → Spells tree x (prefixBytes p ++ lead o ∷ bytes)
-  unfolding tree sizeTree repeatTree prefixBytes narrowOf repeatIn repeatOf repeatingByte
+  unfolding tree sizeTree repeatTree prefixBytes narrowOf repeatIn repeatOf repeatByte
   prefix-spells plain s = read (lead-small o small) (spells-no _ not-66 (spells-no _ not-F2 (spells-no _ not-F3 s)))
   prefix-spells size s =
       read {b = 0x66} (omega arith) (spells-yes _ refl (read (lead-small o small) (spells-no _ not-F2 (spells-no _ not-F3 s))))

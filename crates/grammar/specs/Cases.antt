@@ -7,20 +7,20 @@ use Rattle.grammar.specs.Answers.{Answers}
 use Rattle.grammar.specs.declared.instruction.Found.{Found}
 
 -- what document 01 says of some bytes
-pub data Verdict : Type 0 where
-  cut : Verdict
-  unknown : Verdict
-  one : Verdict
+pub data Saying : Type 0 where
+  cut : Saying
+  unknown : Saying
+  one : Saying
 
 pub record BytesCase : Type 0 where
   pub bytes : List ℕ
-  pub verdict : Verdict
+  pub says : Saying
 
-abbrev pub case : List ℕ → Verdict → BytesCase
-case bytes verdict = record { bytes = bytes; verdict = verdict }
+abbrev pub case : List ℕ → Saying → BytesCase
+case bytes says = record { bytes = bytes; says = says }
 
 -- cut; no such instruction; one instruction
-unfoldable pub Holds : Verdict → List ℕ → Type 0
+unfoldable pub Holds : Saying → List ℕ → Type 0
 Holds cut bytes = Answers bytes Found.Cut
 Holds unknown bytes = Answers bytes Found.Unknown
 Holds one bytes = Instruction bytes
@@ -28,7 +28,7 @@ Holds one bytes = Instruction bytes
 -- each case holds
 unfoldable pub All : List BytesCase → Type 0
 All [] = Unit {0}
-All (c ∷ cs) = Holds (c .verdict) (c .bytes) × All cs
+All (c ∷ cs) = Holds (c .says) (c .bytes) × All cs
 
 -- 66, 0F and F3 alone; 66 E8, 82, F3 90, 8D C0, 66 66; F3 66 A5 and 66 F3 A5
 unfoldable pub case13 : List BytesCase

@@ -22,30 +22,30 @@ pub data Bytes : ℕ → List ℕ → Type 0 where
   and : {b n : ℕ} {bs : List ℕ} → b < 256 → Bytes n bs → Bytes (suc n) (b ∷ bs)
 
 -- F2 or F3
-pub data Repeating : Type 0 where
-  F2 : Repeating
-  F3 : Repeating
+pub data RepeatPrefix : Type 0 where
+  F2 : RepeatPrefix
+  F3 : RepeatPrefix
 
 -- 66 at most once, F2 or F3 at most one of them, in either order
 pub data Prefixes : Type 0 where
   plain : Prefixes
   size : Prefixes
-  repeated : Repeating → Prefixes
-  size-repeated : Repeating → Prefixes
-  repeated-size : Repeating → Prefixes
+  repeated : RepeatPrefix → Prefixes
+  size-repeated : RepeatPrefix → Prefixes
+  repeated-size : RepeatPrefix → Prefixes
 
 -- its byte
-unfoldable pub repeatingByte : Repeating → ℕ
-repeatingByte F2 = 0xF2
-repeatingByte F3 = 0xF3
+unfoldable pub repeatByte : RepeatPrefix → ℕ
+repeatByte F2 = 0xF2
+repeatByte F3 = 0xF3
 
 -- the prefixes' bytes
 unfoldable pub prefixBytes : Prefixes → List ℕ
 prefixBytes plain = []
 prefixBytes size = 0x66 ∷ []
-prefixBytes (repeated r) = repeatingByte r ∷ []
-prefixBytes (size-repeated r) = 0x66 ∷ repeatingByte r ∷ []
-prefixBytes (repeated-size r) = repeatingByte r ∷ 0x66 ∷ []
+prefixBytes (repeated r) = repeatByte r ∷ []
+prefixBytes (size-repeated r) = 0x66 ∷ repeatByte r ∷ []
+prefixBytes (repeated-size r) = repeatByte r ∷ 0x66 ∷ []
 
 -- whether 66 is among the prefixes
 unfoldable pub narrowOf : Prefixes → Bool
@@ -56,7 +56,7 @@ narrowOf (size-repeated r) = true
 narrowOf (repeated-size r) = true
 
 -- the same, in a decoded instruction
-unfoldable pub repeatOf : Repeating → Repeat
+unfoldable pub repeatOf : RepeatPrefix → Repeat
 repeatOf F2 = Repeat.F2
 repeatOf F3 = Repeat.F3
 

@@ -12,8 +12,8 @@ use Rattle.width.specs.declared.Size.{Size}
 use Rattle.width.specs.declared.Size.the-variants.{Byte, Word, Dword}
 use Rattle.width.specs.Sizes.{bits, bytes, modulus}
 use Rattle.width.specs.LittleEndian.{littleEndian, bytesOf}
-use Rattle.machine.specs.declared.memory.Place.{Place}
-use Rattle.machine.specs.declared.memory.Place.the-variants.{At}
+use Rattle.machine.specs.declared.memory.Located.{Located}
+use Rattle.machine.specs.declared.memory.Located.the-variants.{At}
 use Rattle.machine.specs.declared.memory.Loaded.{Loaded}
 use Rattle.machine.specs.declared.memory.Loaded.the-variants.{Value}
 use Rattle.machine.specs.declared.memory.Stored.{Stored}
@@ -57,11 +57,11 @@ module _ (n a len : ℕ) where
     pub address : b ≡ a
 
 -- what a place that was found says of the access
-pub placed : {p : Place} {m n a len at : ℕ} → m ≡ n → p ≡ placeOf m a len → p ≡ At at → Placed n a len at
+pub placed : {p : Located} {m n a len at : ℕ} → m ≡ n → p ≡ placeOf m a len → p ≡ At at → Placed n a len at
 unfolding placeOf
 placed {p} {m} {n} {a} {len} {at} size found is = by (allowed n a len) refl (rw size at (sym found ∙ is))
   where
-    by : (t : Bool) → allowed n a len ≡ t → cond t (At (a - base)) (Place.Outside a) ≡ At at → Placed n a len at
+    by : (t : Bool) → allowed n a len ≡ t → cond t (At (a - base)) (Located.Outside a) ≡ At at → Placed n a len at
     by true h e =
         let within = is-within n a len h in
         let place : at ≡ a - base = cc in
@@ -69,11 +69,11 @@ placed {p} {m} {n} {a} {len} {at} size found is = by (allowed n a len) refl (rw 
     by false h e = absurd (let z : _≡_ {A = ℕ} 0 1 = cc in omega arith)
 
 -- what an address that was found outside says of the access
-pub missed : {p : Place} {m n a len b : ℕ} → m ≡ n → p ≡ placeOf m a len → p ≡ Place.Outside b → Missed n a len b
+pub missed : {p : Located} {m n a len b : ℕ} → m ≡ n → p ≡ placeOf m a len → p ≡ Located.Outside b → Missed n a len b
 unfolding placeOf
 missed {p} {m} {n} {a} {len} {b} size found is = by (allowed n a len) refl (rw size at (sym found ∙ is))
   where
-    by : (t : Bool) → allowed n a len ≡ t → cond t (At (a - base)) (Place.Outside a) ≡ Place.Outside b → Missed n a len b
+    by : (t : Bool) → allowed n a len ≡ t → cond t (At (a - base)) (Located.Outside a) ≡ Located.Outside b → Missed n a len b
     by true h e = absurd (let z : _≡_ {A = ℕ} 0 1 = cc in omega arith)
     by false h e = record { outside = h; address = cc }
 

@@ -8,8 +8,8 @@ use lib.Seq.{sets}
 use Rattle.width.specs.declared.Size.{Size}
 use Rattle.width.specs.Sizes.{bytes}
 use Rattle.width.specs.LittleEndian.{littleEndian, bytesOf}
-use Rattle.machine.specs.declared.memory.Place.{Place}
-use Rattle.machine.specs.declared.memory.Place.the-variants.{At}
+use Rattle.machine.specs.declared.memory.Located.{Located}
+use Rattle.machine.specs.declared.memory.Located.the-variants.{At}
 use Rattle.machine.specs.declared.memory.Loaded.{Loaded}
 use Rattle.machine.specs.declared.memory.Loaded.the-variants.{Value}
 use Rattle.machine.specs.declared.memory.Stored.{Stored}
@@ -24,8 +24,8 @@ unfoldable pub allowed : ℕ → ℕ → ℕ → Bool
 allowed n a len = leb base a && leb (a + n) (base + len)
 
 -- where an access lies in the data, or the address that is outside
-unfoldable pub placeOf : ℕ → ℕ → ℕ → Place
-placeOf n a len = cond (allowed n a len) (At (a - base)) (Place.Outside a)
+unfoldable pub placeOf : ℕ → ℕ → ℕ → Located
+placeOf n a len = cond (allowed n a len) (At (a - base)) (Located.Outside a)
 
 -- a load of a number of the size, the low byte first
 unfoldable pub loadOf : List ℕ → Size → ℕ → Loaded

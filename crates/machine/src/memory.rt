@@ -10,7 +10,7 @@ ghost use Rattle.machine.specs.Memory.{placeOf, loadOf, storeOf, storedO
 use width::Size;
 
 // Where an access lies in the data, or the address that is outside.
-enum Place {
+enum Located {
     At(usize),
     Outside(u32),
 }
@@ -28,20 +28,20 @@ pub enum Stored {
 }
 
 // The place of an access of n bytes at address a to so many data bytes.
-fn locate(n: usize, a: u32, len: usize) -> Place
+fn locate(n: usize, a: u32, len: usize) -> Located
     ensures { λ r. ⌜ r ≡ placeOf n a len ⌝ }
 {
     if a < 0x0010_0000 {
-        return Place::Outside(a);
+        return Located::Outside(a);
     }
     let at = (a - 0x0010_0000) as usize;
     if len < n {
-        return Place::Outside(a);
+        return Located::Outside(a);
     }
     if len - n < at {
-        return Place::Outside(a);
+        return Located::Outside(a);
     }
-    Place::At(at)
+    Located::At(at)
 }
 
 // A byte as a number.
@@ -91,8 +91,8 @@ pub fn load(area: &[u8], w: Size, a: u32) -> Loaded
     ensures { λ r. ⌜ r ≡ loadOf (now (area .entry)) w a ⌝ }
 {
     match locate(width::bytes(w), a, area.len()) {
-        Place::At(at) => Loaded::Value(number(area, at, w)),
-        Place::Outside(b) => Loaded::Outside(b),
+        Located::At(at) => Loaded::Value(number(area, at, w)),
+        Located::Outside(b) => Loaded::Outside(b),
     }
 }
 
@@ -140,10 +140,10 @@ pub fn store(area: &mut [u8], w: Size, a: u32, v: u32) -> Stored
     ensures { λ r. ⌜ (r ≡ storedOf (now (area .entry)) w a) × (now (area .exit) ≡ storeOf (now (area .entry)) w a v) ⌝ }
 {
     match locate(width::bytes(w), a, area.len()) {
-        Place::At(at) => {
+        Located::At(at) => {
             put(area, at, w, v);
             Stored::Done
         }
-        Place::Outside(b) => Stored::Outside(b),
+        Located::Outside(b) => Stored::Outside(b),
     }
 }

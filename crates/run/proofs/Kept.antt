@@ -14,14 +14,9 @@ use Rattle.effect.proofs.Ways.{regs-kept}
 use Rattle.run.specs.declared.Lent.{Lent}
 use Rattle.run.specs.Steps.{Moved, next, stop, home, inside, executed, stepOf}
 use Rattle.run.proofs.Planned.{Comes, goes-on, planned-comes}
-use Rattle.run.specs.Runs.{Ended, onMoved, runFrom, refusal, opened, closed, taken, refused, runOf}
+use Rattle.run.specs.Runs.{Ended, onMoved, runFrom, refusal, opened, closed, taken, refused, runOf, Kept}
 
--- a machine has as many registers as another, and its data are as long as the other's
-pub record Kept (m : Machine) (d : List ℕ) (m′ : Machine) (d′ : List ℕ) : Type 0 where
-  pub registers : length (m′ .regs) ≡ length (m .regs)
-  pub long : length d′ ≡ length d
-
--- so it is with what a step moves to
+-- what a step moves to keeps both
 pub data Keeps (m : Machine) (d : List ℕ) : Moved → Type 0 where
   moves : {m′ : Machine} {d′ : List ℕ} → Kept m d m′ d′ → Keeps m d (next m′ d′)
   stops : {n a : ℕ} → Keeps m d (stop n a)

@@ -78,3 +78,8 @@ unfoldable pub runOf : List ℕ → Lent → List ℕ → ℕ → HandedBack
 runOf code l d budget =
     cond (eqb (refusal (length code) (length d) (l .word) budget) 0) (taken (runFrom code budget (opened l) d 0))
     (refused l d (refusal (length code) (length d) (l .word) budget))
+
+-- a machine has as many registers as another, and its data are as long as the other's
+pub record Kept (m : Machine) (d : List ℕ) (m′ : Machine) (d′ : List ℕ) : Type 0 where
+  pub registers : length (m′ .regs) ≡ length (m .regs)
+  pub long : length d′ ≡ length d

@@ -7,7 +7,7 @@ use native.Mathlib.Nat.{pow-succ'}
 use native.Mathlib.Omega.{arith}
 use lib.ListN.{length, getD, length-append, List·getD-append}
 use borrow.Author.Tests.{lt-ltb, le-ltb}
-use Rattle.text.specs.Digits.{decimalBy, decimal, hexDigit, hexadecimal}
+use Rattle.text.specs.Digits.{decimalBy, decimal, hexDigit, hexadecimal, readOn}
 use Rattle.text.proofs.Writing.{within}
 
 -- one digit, by any divisions
@@ -72,11 +72,6 @@ pub hexadecimal-length : (k n : ℕ) → length (hexadecimal k n) ≡ k
 unfolding hexadecimal
 hexadecimal-length zero n = refl
 hexadecimal-length (suc k) n = rw (length-append, hexadecimal-length k (n / 16)) (omega arith)
-
--- the number that decimal digits stand for, behind a number already read
-unfoldable pub readOn : ℕ → List ℕ → ℕ
-readOn n [] = n
-readOn n (d ∷ digits) = readOn (10 * n + (d - 48)) digits
 
 -- reading joined digits
 read-append : (n : ℕ) (xs ys : List ℕ) → readOn n (xs ++ ys) ≡ readOn (readOn n xs) ys
