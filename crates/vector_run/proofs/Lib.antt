@@ -2,3 +2,4 @@
 pub mod Comparing
 pub mod Found
 pub mod Taking
+pub mod Outcomes

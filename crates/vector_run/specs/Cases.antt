@@ -25,7 +25,7 @@ stateBefore line = wordsFrom 10 2 line ++ (0 ∷ 0 ∷ [])
 abbrev pub most : ℕ
 most = 65540
 
--- the size in field k is no more than that, and the bytes in the next field fit it
+-- the size in field k is at most that, and the bytes in the next field fit it
 unfoldable pub areaFits : List ℕ → ℕ → Bool
 areaFits line k = leb (numberOf line k) most && leb (length (bytesOf (fieldOf line (k + 1)))) (numberOf line k)
 
