@@ -1,15 +1,15 @@
 -- The bytes that digits stand for, one by one, and areas that hold them. Assumes nothing.
-use mathlib.Core.Path.{_≡_, refl, ap, ap₂, sym, _∙_}
+use mathlib.Core.Path.{_≡_, refl, ap, ap₂, sym}
 use mathlib.Core.Bool.{Bool, true, false, _&&_, false≢true}
 use mathlib.Core.List.{List, [], _∷_, _++_}
 use Prim.Native.Nat.{ℕ, zero, suc, _+_, _-_, _*_, _/_, _<_, _≤_}
 use native.Mathlib.Numerals.{add-one}
 use native.Mathlib.Omega.{arith}
-use lib.Dec.{leb, eqb}
+use lib.Dec.{eqb}
 use lib.ListN.{length, getD, take, drop, set, drop-of-length-le, List·getD-eq-default}
-use lib.Seq.{drop-cons, take-suc-set, getD-drop, drop-drop, drop-nil}
+use lib.Seq.{drop-cons, take-suc-set, getD-drop, drop-drop}
 use borrow.Author.Tests.{eq-eqb, ne-eqb, eqb-true}
-use Rattle.vector_text.specs.Hex.{digitOf, bytesOf, padded, equal, isHeld}
+use Rattle.vector_text.specs.Hex.{digitOf, bytesOf, padded, equal}
 
 -- two digits a byte
 pub bytes-length : (text : List ℕ) → length (bytesOf text) ≡ length text / 2

@@ -1,5 +1,5 @@
 -- Hex digits, one by one, and the number of those still to come. Assumes nothing.
-use mathlib.Core.Path.{_≡_, refl, sym, _∙_}
+use mathlib.Core.Path.{_≡_}
 use mathlib.Core.Bool.{Bool, true, false}
 use mathlib.Core.List.{List, [], _∷_}
 use Prim.Native.Nat.{ℕ, suc, _+_, _-_, _*_, _%_, _^_, _<_, _≤_}
@@ -8,7 +8,7 @@ use native.Mathlib.Omega.{arith}
 use lib.ListN.{length, getD, drop, drop-of-length-le}
 use lib.Seq.{drop-cons}
 use borrow.Author.Tests.{le-leb, lt-leb}
-use Rattle.vector_text.specs.Hex.{isFigure, isLetter, isDigit, digitOf, areDigits, readOn, valueOf}
+use Rattle.vector_text.specs.Hex.{isFigure, isLetter, isDigit, digitOf, areDigits, readOn}
 
 -- what a byte is as a digit: whether it is one, and its value
 pub record Digit (b : ℕ) (is : Bool) (value : ℕ) : Type 0 where

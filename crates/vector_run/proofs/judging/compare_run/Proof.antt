@@ -1,9 +1,7 @@
 -- `vector_run::judging::compare_run` meets its contract: the numbers still to come decide. Assumes nothing.
-use mathlib.Core.Path.{_≡_, refl, sym, _∙_}
+use mathlib.Core.Path.{refl, sym, _∙_}
 use mathlib.Core.List.{[], _∷_}
 use Prim.Native.Nat.{_≤_, _-_}
-use native.Mathlib.Omega.{arith}
-use lib.ListN.{length}
 use borrow.Author.Needs.{needs}
 use Rattle.vector_run.specs.Findings.{Told}
 use Rattle.vector_run.proofs.Comparing.{Comparing, compare-goes, compare-stops, compare-ends}

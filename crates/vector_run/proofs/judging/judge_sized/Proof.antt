@@ -1,6 +1,5 @@
 -- `vector_run::judging::judge_sized` meets its contract: both areas fit their rooms. Assumes nothing.
 use mathlib.Core.Path.{sym, _∙_}
-use native.Mathlib.Omega.{arith}
 use lib.Seq.{length-take-le}
 use borrow.Author.Needs.{needs}
 use borrow.Author.Tests.{not-true, not-false}

@@ -1,6 +1,5 @@
 -- `vector_run::reading::take_byte` meets its contract: a newline, a byte that is held, or one without room. Assumes nothing.
 use mathlib.Core.Path.{sym}
-use lib.ListN.{length-set}
 use lib.Seq.{length-take-le}
 use borrow.Author.Needs.{needs}
 use Rattle.vector_run.proofs.Taking.{took-line, took-byte, took-full}

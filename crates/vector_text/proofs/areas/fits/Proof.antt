@@ -1,5 +1,4 @@
 -- `vector_text::areas::fits` meets its contract: two digits a byte. Assumes nothing.
-use borrow.Author.Needs.{needs}
 use Rattle.vector_text.proofs.Bytes.{bytes-length}
 use Rattle.vector_text.proofs.areas.fits.Statement.{statement}
 use Rattle.vector_text.proofs.areas.fits.Tie as tie

@@ -1,7 +1,6 @@
 -- `vector_text::areas::holds` meets its contract: what is left of area and bytes decides. Assumes nothing.
 use mathlib.Core.Path.{_≡_, sym, _∙_}
 use Prim.Native.Nat.{_≤_, _-_}
-use native.Mathlib.Omega.{arith}
 use lib.ListN.{length}
 use borrow.Author.Needs.{needs}
 use Rattle.vector_text.specs.Hex.{bytesOf, padded, equal, isHeld}

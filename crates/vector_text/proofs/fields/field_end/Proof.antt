@@ -1,6 +1,5 @@
 -- `vector_text::fields::field_end` meets its contract: no tab stands between the start and this place. Assumes nothing.
 use Prim.Native.Nat.{_-_}
-use native.Mathlib.Omega.{arith}
 use lib.ListN.{length}
 use borrow.Author.Needs.{needs}
 use borrow.Author.Tests.{eqb-true, eqb-false, not-true, not-false}

@@ -1,7 +1,7 @@
 -- `vector_text::hex::digit` meets its contract: each stretch of bytes has its values. Assumes nothing.
+use mathlib.Core.Path.{sym}
 use native.Mathlib.Omega.{arith}
 use borrow.Author.Needs.{needs}
-use mathlib.Core.Path.{sym, _∙_}
 use Rattle.vector_text.proofs.Digits.{below-figures, figure, between, letter, past-letters}
 use Rattle.vector_text.proofs.hex.digit.Statement.{statement}
 use Rattle.vector_text.proofs.hex.digit.Tie as tie
