@@ -25,16 +25,16 @@ module _ (line : List ℕ) (k n : ℕ) (later : List Told) where
   unfolding firstOther agrees fieldFor numberOf
   number-other other = rw (ne-eqb _ _ other)
 
-module _ (line : List ℕ) (k : ℕ) (bytes : List ℕ) where
+module _ (line : List ℕ) (k : ℕ) (bytes : List ℕ) {text : List ℕ} (is : text ≡ fieldOf line k) where
   -- a last area that the line has too
-  pub area-same : isHeld bytes (bytesOf (fieldOf line k)) ≡ true → firstOther line (Told.theArea k bytes ∷ []) ≡ Same
+  pub area-same : isHeld bytes (bytesOf text) ≡ true → firstOther line (Told.theArea k bytes ∷ []) ≡ Same
   unfolding firstOther agrees
-  area-same e = rw e
+  area-same e = rw (← is, e)
 
   -- a last area that the line has not
-  pub area-other : isHeld bytes (bytesOf (fieldOf line k)) ≡ false → firstOther line (Told.theArea k bytes ∷ []) ≡ DiffersIn k
+  pub area-other : isHeld bytes (bytesOf text) ≡ false → firstOther line (Told.theArea k bytes ∷ []) ≡ DiffersIn k
   unfolding firstOther agrees fieldFor
-  area-other e = rw e
+  area-other e = rw (← is, e)
 
 -- what is told is found as what is left of the numbers, from a place on, and what follows them
 pub record Comparing (line numbers : List ℕ) (later : List Told) (i : ℕ) : Type 0 where

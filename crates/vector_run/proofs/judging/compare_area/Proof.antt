@@ -6,12 +6,10 @@ use Rattle.vector_run.proofs.judging.compare_area.Statement.{statement}
 use Rattle.vector_run.proofs.judging.compare_area.Tie as tie
 
 returns : tie.Need-returns
-returns c =
-    sym (area-same _ 31 _ (rw (← c .before .before .field .ensures) (sym (c .before .holds .ensures) ∙ c .if1 .taken)))
+returns c = sym (area-same _ 31 _ (c .before .before .field .ensures) (sym (c .before .holds .ensures) ∙ c .if1 .taken))
 
 returns-2 : tie.Need-returns-2
-returns-2 c =
-    sym (area-other _ 31 _ (rw (← c .before .before .field .ensures) (sym (c .before .holds .ensures) ∙ c .if1 .left)))
+returns-2 c = sym (area-other _ 31 _ (c .before .before .field .ensures) (sym (c .before .holds .ensures) ∙ c .if1 .left))
 
 pub compare-area-spec : {M : Type 1} → statement M
 compare-area-spec =

@@ -2,6 +2,7 @@
 use mathlib.Core.Path.{refl, sym, _∙_}
 use mathlib.Core.List.{[], _∷_}
 use Prim.Native.Nat.{_≤_, _-_}
+use native.Mathlib.Omega.{arith}
 use borrow.Author.Needs.{needs}
 use Rattle.vector_run.specs.Findings.{Told}
 use Rattle.vector_run.proofs.Comparing.{Comparing, compare-goes, compare-stops, compare-ends}
@@ -22,13 +23,13 @@ array-read-wide c = let long = c .before .loop .inv .1 .long in search needs
 
 returns : tie.Need-returns Inv-loop μ-loop
 returns c =
-    sym (compare-stops (c .before .before .before .before .loop .inv .1) (c .before .before .before .loop-test .taken)
+    sym (compare-stops (c .before .before .before .before .loop .inv .1) (omega arith)
     (λ e. c .if1 .taken (c .before .before .wide .ensures ∙ e ∙ sym (c .before .number-64 .ensures))))
 
 loop-again : tie.Need-loop-again Inv-loop μ-loop
 loop-again c = (
   search needs,
-  compare-goes (c .before .before .before .before .loop .inv .1) (c .before .before .before .loop-test .taken)
+  compare-goes (c .before .before .before .before .loop .inv .1) (omega arith)
       (sym (c .before .before .wide .ensures) ∙ c .if1 .left ∙ c .before .number-64 .ensures),
 )
 
