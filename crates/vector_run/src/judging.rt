@@ -1,0 +1,187 @@
+// One case: it is run as its line says, and what comes out is compared with what its line says.
+use sangolid::sangolid_check;
+use sangolid::sangolid_run;
+use vector_text::areas::fill;
+use vector_text::areas::fits;
+use vector_text::areas::holds;
+use vector_text::fields::field;
+use vector_text::fields::has_form;
+use vector_text::fields::number_32;
+use vector_text::fields::number_64;
+ghost use mathlib.Core.Path.{_≡_};
+ghost use mathlib.Core.List.{[], _∷_, _++_};
+ghost use Prim.Native.Nat.{_<_};
+ghost use lib.ListN.{length};
+ghost use Rattle.vector_run.specs.Cases.{stateBefore, areaFits, padTo};
+ghost use Rattle.vector_run.specs.Findings.{Told, firstOther, numbersFrom, resultsOf, checkedTold, runFinding, CheckFinds, KindFinds, SizedFinds, Finds};
+
+// What is found of a case: it comes out as its line says, or differs first in the field of a number, or its line is malformed.
+pub enum Finding {
+    Same,
+    DiffersIn(usize),
+    Malformed,
+}
+
+// A number of 32 bits, as one of 64.
+fn wide(n: u32) -> u64
+    ensures { λ r. ⌜ r ≡ n ⌝ }
+{
+    n as u64
+}
+
+// The state that a run is called with: the machine before, in fields 2 to 11.
+fn state_before(line: &[u8]) -> [u32; 12]
+    ensures { λ r. ⌜ r ≡ stateBefore (now (line .entry)) ⌝ }
+{
+    [
+        number_32(line, 2),
+        number_32(line, 3),
+        number_32(line, 4),
+        number_32(line, 5),
+        number_32(line, 6),
+        number_32(line, 7),
+        number_32(line, 8),
+        number_32(line, 9),
+        number_32(line, 10),
+        number_32(line, 11),
+        0,
+        0,
+    ]
+}
+
+// What a run gives back, in the order of fields 17 to 29: the number, steps and address, and the machine.
+fn results(number: u32, state: [u32; 12]) -> [u32; 13]
+    ensures { λ r. ⌜ r ≡ resultsOf number state ⌝ }
+{
+    [
+        number,
+        state[10],
+        state[11],
+        state[0],
+        state[1],
+        state[2],
+        state[3],
+        state[4],
+        state[5],
+        state[6],
+        state[7],
+        state[8],
+        state[9],
+    ]
+}
+
+// The finding of an area after, in field 31, where all before it is the same.
+fn compare_area(line: &[u8], area: &[u8]) -> Finding
+    ensures { λ r. ⌜ r ≡ firstOther (now (line .entry)) (Told.theArea 31 (now (area .entry)) ∷ []) ⌝ }
+{
+    if holds(area, field(line, 31)) {
+        return Finding::Same;
+    }
+    Finding::DiffersIn(31)
+}
+
+// Compares what a run gives back and the data after.
+fn compare_run(line: &[u8], told: [u32; 13], area: &[u8]) -> Finding
+    ensures { λ r. ⌜ r ≡ firstOther (now (line .entry)) (numbersFrom 17 told ++ (Told.theArea 31 (now (area .entry)) ∷ [])) ⌝ }
+{
+    let mut i = 0;
+    while i < 13 {
+        if wide(told[i]) != number_64(line, 17 + i) {
+            return Finding::DiffersIn(17 + i);
+        }
+        i += 1;
+    }
+    compare_area(line, area)
+}
+
+// Compares what the block check answers and the marks after.
+fn compare_check(line: &[u8], number: u32, value: u32, marks: &[u8]) -> Finding
+    ensures { λ r. ⌜ r ≡ firstOther (now (line .entry)) (checkedTold number value (now (marks .entry))) ⌝ }
+{
+    if wide(number) != number_64(line, 17) {
+        return Finding::DiffersIn(17);
+    }
+    if wide(value) != number_64(line, 19) {
+        return Finding::DiffersIn(19);
+    }
+    compare_area(line, marks)
+}
+
+// Runs the block, over areas as long as the line says, and compares.
+fn judge_run(line: &[u8], code: &[u8], area: &mut [u8]) -> Finding
+    ensures { λ r. ⌜ r ≡ runFinding (now (line .entry)) (now (code .entry)) (now (area .entry)) ⌝ }
+{
+    let mut state = state_before(line);
+    let number = sangolid_run(&mut state, code, area, number_64(line, 12));
+    compare_run(line, results(number, state), area)
+}
+
+// Checks the block, over areas as long as the line says, and compares.
+fn judge_check(line: &[u8], code: &[u8], marks: &mut [u8]) -> Finding
+    ensures { λ r. ⌜ CheckFinds (now (line .entry)) (now (code .entry)) (now (marks .entry)) r ⌝ }
+{
+    let mut answer = [0];
+    let number = sangolid_check(code, marks, &mut answer);
+    compare_check(line, number, answer[0], marks)
+}
+
+// Fills areas as long as the line says, and judges the case by its kind.
+fn judge_filled(line: &[u8], runs: bool, code: &mut [u8], area: &mut [u8]) -> Finding
+    ensures { λ r. ⌜ KindFinds runs (now (line .entry)) (padTo (now (line .entry)) 14 (length (now (code .entry)))) (padTo (now (line .entry)) 16 (length (now (area .entry)))) r ⌝ }
+{
+    fill(code, field(line, 14));
+    fill(area, field(line, 16));
+    if runs {
+        return judge_run(line, code, area);
+    }
+    judge_check(line, code, area)
+}
+
+// Room for code, data or marks: some bytes more than a run or a check may have.
+fn room() -> [u8; 65540]
+    ensures { λ r. ⌜ 65540 ≡ length r ⌝ }
+{
+    [0; 65540]
+}
+
+// Whether there is room for an area whose size is in the field of a number, and the bytes in the next field fit it.
+fn area_fits(line: &[u8], number: usize) -> bool
+    requires { ⌜ number < 31 ⌝ }
+    ensures { λ r. ⌜ r ≡ areaFits (now (line .entry)) number ⌝ }
+{
+    let size = number_64(line, number);
+    if 65540 < size {
+        return false;
+    }
+    fits(field(line, number + 1), size as usize)
+}
+
+// Judges a case of a kind, over areas as long as its line says.
+fn judge_sized(line: &[u8], runs: bool) -> Finding
+    ensures { λ r. ⌜ SizedFinds runs (now (line .entry)) r ⌝ }
+{
+    if !area_fits(line, 13) {
+        return Finding::Malformed;
+    }
+    if !area_fits(line, 15) {
+        return Finding::Malformed;
+    }
+    let mut code = room();
+    let mut area = room();
+    let code_size = number_64(line, 13) as usize;
+    let area_size = number_64(line, 15) as usize;
+    judge_filled(line, runs, &mut code[..code_size], &mut area[..area_size])
+}
+
+// Judges the case of a line.
+pub fn judge(line: &[u8]) -> Finding
+    ensures { λ r. ⌜ Finds (now (line .entry)) r ⌝ }
+{
+    if has_form(line, b"rnnnnnnnnnnwnbnbnwnnnnnnnnnnnnb") {
+        return judge_sized(line, true);
+    }
+    if has_form(line, b"c-----------nbnbn-n-----------b") {
+        return judge_sized(line, false);
+    }
+    Finding::Malformed
+}
