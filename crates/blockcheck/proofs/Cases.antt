@@ -23,7 +23,7 @@ use Rattle.blockcheck.specs.Blocks.{startsFrom, codeBase, targetOf, Land
 use Rattle.blockcheck.specs.Cases.{All, case-14}
 use Rattle.blockcheck.specs.declared.Verdict.{Verdict}
 use Rattle.blockcheck.proofs.Cuts.{same-length}
-use Rattle.blockcheck.proofs.Divisions.{prefix-of}
+use Rattle.blockcheck.proofs.Extents.{prefix-of}
 use Rattle.blockcheck.proofs.Seeking.{landed}
 
 -- an instruction of one opcode in numbers: so many bytes, the last of them its immediate where there are two

@@ -14,7 +14,7 @@ use Rattle.blockcheck.specs.Blocks.{Sized, startsFrom, Good, Astray, mar
 use Rattle.blockcheck.specs.Starts.{Acceptable}
 use Rattle.blockcheck.specs.declared.Verdict.{Verdict}
 use Rattle.blockcheck.proofs.Cuts.{nothing-begins, same-reach, cut-unique, good-of, astray-of, good-not-astray, astray-unique}
-use Rattle.blockcheck.proofs.Divisions.{prefix-of}
+use Rattle.blockcheck.proofs.Extents.{prefix-of}
 
 -- a proper prefix of an instruction begins with none
 prefix-stuck : {rest : List ℕ} → Prefix rest → Begins rest → ⊥
