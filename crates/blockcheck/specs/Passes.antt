@@ -10,7 +10,7 @@ use Rattle.grammar.specs.Decoding.{decodeOf}
 use Rattle.grammar.specs.Relative.{relativeOf}
 use Rattle.grammar.specs.declared.instruction.Decoded.{Decoded}
 use Rattle.grammar.specs.declared.instruction.Found.{Found}
-use Rattle.blockcheck.specs.Blocks.{startsFrom, Arrives, Good, Astray, marked, Reached, Judged}
+use Rattle.blockcheck.specs.Blocks.{numberOf, valueOf, startsFrom, Arrives, Good, Astray, marked, Reached, Judged}
 use Rattle.blockcheck.specs.declared.Verdict.{Verdict}
 use Rattle.blockcheck.specs.declared.dividing.Extent.{Extent}
 
@@ -55,4 +55,5 @@ pub data Sought (code : List ℕ) : ℕ → Type 0 where
 
 -- the answer and the marks left, for marks as long as the code
 unfoldable pub Concluded : List ℕ → Verdict → List ℕ → Type 0
-Concluded code verdict after = (marks : List ℕ) → length marks ≡ length code → Judged code marks verdict after
+Concluded code verdict after =
+    (marks : List ℕ) → length marks ≡ length code → Judged code marks (numberOf verdict) (valueOf verdict) after

@@ -9,7 +9,7 @@ use crate::landing::first_astray;
 use crate::marks::clear;
 ghost use mathlib.Core.Path.{_≡_};
 ghost use lib.ListN.{length};
-ghost use Rattle.blockcheck.specs.Blocks.{Sized, Judged};
+ghost use Rattle.blockcheck.specs.Blocks.{numberOf, valueOf, Sized, Judged};
 ghost use Rattle.blockcheck.specs.Passes.{Divided, Concluded};
 ghost use Rattle.blockcheck.specs.declared.dividing.Extent.{Extent};
 
@@ -62,7 +62,7 @@ fn judge(code: &[u8], marks: &mut [u8]) -> Verdict
 
 // Checks a block of code and marks its starts; a refusal leaves no mark, or none changed where a length is wrong.
 pub fn check(code: &[u8], marks: &mut [u8]) -> Verdict
-    ensures { λ r. ⌜ Judged (now (code .entry)) (now (marks .entry)) r (now (marks .exit)) ⌝ }
+    ensures { λ r. ⌜ Judged (now (code .entry)) (now (marks .entry)) (numberOf r) (valueOf r) (now (marks .exit)) ⌝ }
 {
     if code.len() == 0 || code.len() > 65536 {
         return Verdict::BadLength;
