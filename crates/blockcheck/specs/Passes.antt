@@ -1,4 +1,4 @@
--- What each pass of the block check gives. Assumes nothing.
+-- What each pass of the block check gives: for the private functions on the way, and nothing here need be believed. Assumes nothing.
 use mathlib.Core.Path.{_≡_}
 use mathlib.Core.Bool.{Bool, true, false}
 use mathlib.Core.List.{List, List·Memᴰ}
