@@ -20,10 +20,9 @@ use Rattle.grammar.specs.declared.instruction.Found.{Found}
 use Rattle.grammar.specs.declared.relative.Relative.{Relative}
 use Rattle.grammar.proofs.Answered.{decode-answers, found-standing}
 use Rattle.blockcheck.specs.Blocks.{startsFrom, codeBase, targetOf, Lands, Arrives, arrives, Lawful, Good, Astray, marked, Reached, Judged, cut-at, astray-at, accepted}
-use Rattle.blockcheck.specs.Cases.{All, case-14}
-use Rattle.blockcheck.specs.declared.Verdict.{Verdict}
+use Rattle.blockcheck.specs.Cases.{Holds, All, case-14}
 use Rattle.blockcheck.proofs.Cuts.{same-length}
-use Rattle.blockcheck.proofs.Divisions.{prefix-of}
+use Rattle.blockcheck.proofs.Extents.{prefix-of}
 use Rattle.blockcheck.proofs.Seeking.{landed}
 
 -- an instruction of one opcode in numbers: so many bytes, the last of them its immediate where there are two
@@ -83,7 +82,7 @@ module _ (starts code : List ℕ) (d : Decoded) (e : decodeOf code 0 ≡ Found.I
   lawful-lands l = landed (subst (λ (t : Type 0). t) (sym lawful-as) l)
 
 -- EB FE leads to itself
-jumps-back : (marks : List ℕ) → length marks ≡ 2 → Judged (0xEB ∷ 0xFE ∷ []) marks (Verdict.Accepted 1) (1 ∷ 0 ∷ [])
+jumps-back : (marks : List ℕ) → length marks ≡ 2 → Judged (0xEB ∷ 0xFE ∷ []) marks 0 1 (1 ∷ 0 ∷ [])
 unfolding plain startsFrom marked Good Lands targetOf codeBase
 jumps-back marks h =
     let first = own (0xEB ∷ 0xFE ∷ []) (plain 2 0xEB 0xFE) (decodings .back) in
@@ -91,7 +90,7 @@ jumps-back marks h =
     (lands-lawful (0 ∷ []) (0xEB ∷ 0xFE ∷ []) (plain 2 0xEB 0xFE) (decodings .back) 0xFFFFFFFE (decodings .back-by) (0, List·Memᴰ·head refl, refl), tt)
 
 -- EB 00 leads to the code's end
-jumps-out : (marks : List ℕ) → length marks ≡ 2 → Judged (0xEB ∷ 0x00 ∷ []) marks (Verdict.AstrayAt 0) (0 ∷ 0 ∷ [])
+jumps-out : (marks : List ℕ) → length marks ≡ 2 → Judged (0xEB ∷ 0x00 ∷ []) marks 23 0 (0 ∷ 0 ∷ [])
 unfolding plain startsFrom marked Astray Lands targetOf codeBase
 jumps-out marks h =
     let first = own (0xEB ∷ 0x00 ∷ []) (plain 2 0xEB 0x00) (decodings .on) in
@@ -100,7 +99,7 @@ jumps-out marks h =
     (inl (λ l. let (s, m, e) = lands l in omega (arith, List·Memᴰ·eq-of-singleton m), refl))
 
 -- EB FF leads into itself, past its first byte
-jumps-in : (marks : List ℕ) → length marks ≡ 3 → Judged (0xEB ∷ 0xFF ∷ 0x90 ∷ []) marks (Verdict.AstrayAt 0) (0 ∷ 0 ∷ 0 ∷ [])
+jumps-in : (marks : List ℕ) → length marks ≡ 3 → Judged (0xEB ∷ 0xFF ∷ 0x90 ∷ []) marks 23 0 (0 ∷ 0 ∷ 0 ∷ [])
 unfolding plain startsFrom marked Astray Lands targetOf codeBase
 jumps-in marks h =
     let first = own (0xEB ∷ 0xFF ∷ 0x90 ∷ []) (plain 2 0xEB 0xFF) (decodings .into) in
@@ -115,7 +114,7 @@ jumps-in marks h =
     ))
 
 -- after EB FF, C0 is cut
-ends-cut : (marks : List ℕ) → length marks ≡ 3 → Judged (0xEB ∷ 0xFF ∷ 0xC0 ∷ []) marks (Verdict.CutAt 2) (0 ∷ 0 ∷ 0 ∷ [])
+ends-cut : (marks : List ℕ) → length marks ≡ 3 → Judged (0xEB ∷ 0xFF ∷ 0xC0 ∷ []) marks 21 2 (0 ∷ 0 ∷ 0 ∷ [])
 unfolding plain
 ends-cut marks h =
     let first = own (0xEB ∷ 0xFF ∷ 0xC0 ∷ []) (plain 2 0xEB 0xFF) (decodings .before-cut) in
@@ -126,14 +125,5 @@ ends-cut marks h =
 
 -- all of case 14 holds of the written rules
 pub case-14-holds : All case-14
-unfolding All case-14
-case-14-holds = (
-  λ marks h. record { verdict = Verdict.Accepted 1; judged = jumps-back marks h; number = refl; value = refl },
-  (
-    λ marks h. record { verdict = Verdict.AstrayAt 0; judged = jumps-out marks h; number = refl; value = refl },
-    (
-      λ marks h. record { verdict = Verdict.AstrayAt 0; judged = jumps-in marks h; number = refl; value = refl },
-      (λ marks h. record { verdict = Verdict.CutAt 2; judged = ends-cut marks h; number = refl; value = refl }, tt),
-    ),
-  ),
-)
+unfolding All Holds case-14
+case-14-holds = (jumps-back, (jumps-out, (jumps-in, (ends-cut, tt))))

@@ -16,7 +16,6 @@ use Rattle.grammar.specs.declared.relative.Relative.{Relative}
 use Rattle.grammar.proofs.Answered.{found-inside, instruction-found}
 use Rattle.blockcheck.specs.Blocks.{startsFrom, codeBase, targetOf, Lands, Arrives, Lawful, Good, Judged, accepted}
 use Rattle.blockcheck.specs.Starts.{Start, Acceptable}
-use Rattle.blockcheck.specs.declared.Verdict.{Verdict}
 use Rattle.blockcheck.proofs.Cuts.{same-length, cut-unique, good-of}
 use Rattle.blockcheck.proofs.Marking.{marked-shows}
 use Rattle.blockcheck.proofs.Seeking.{landed}
@@ -113,7 +112,7 @@ zero-is-start a =
     (first-start 0 (a .cut))
 
 -- of accepted code the marks are 1 exactly at the starts
-pub marks-at-starts : {code marks after : List ℕ} {count : ℕ} → Judged code marks (Verdict.Accepted count) after → (i : ℕ)
+pub marks-at-starts : {code marks after : List ℕ} {count : ℕ} → Judged code marks 0 count after → (i : ℕ)
     → (getD after i 0 ≡ 1) ↔ Start code i
 marks-at-starts (accepted s l {pieces} cut good) i = (
   λ e. record { pieces = pieces; cut = cut; among = marked-shows cut .start i e },

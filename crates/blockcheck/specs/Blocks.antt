@@ -84,16 +84,16 @@ pub record Reached (code rest : List ℕ) : Type 0 where
   pub cut : Cut pieces before
   pub joined : before ++ rest ≡ code
 
--- the answer for some code and marks, and the marks it leaves
-pub data Judged (code marks : List ℕ) : Verdict → List ℕ → Type 0 where
-  bad-length : (Sized code → ⊥) → Judged code marks BadLength marks
-  bad-marks : Sized code → (length marks ≡ length code → ⊥) → Judged code marks BadMarks marks
+-- the paper's number and value for some code and marks, and the marks left
+pub data Judged (code marks : List ℕ) : (number value : ℕ) → List ℕ → Type 0 where
+  bad-length : (Sized code → ⊥) → Judged code marks 10 0 marks
+  bad-marks : Sized code → (length marks ≡ length code → ⊥) → Judged code marks 14 0 marks
   cut-at : Sized code → length marks ≡ length code → {rest : List ℕ} (reached : Reached code rest) → 0 < length rest → Prefix rest
-      → Judged code marks (CutAt (length (reached .before))) (replicate (length code) 0)
+      → Judged code marks 21 (length (reached .before)) (replicate (length code) 0)
   unknown-at : Sized code → length marks ≡ length code → {rest : List ℕ} (reached : Reached code rest) → (Begins rest → ⊥)
-      → (Prefix rest → ⊥) → Judged code marks (UnknownAt (length (reached .before))) (replicate (length code) 0)
+      → (Prefix rest → ⊥) → Judged code marks 22 (length (reached .before)) (replicate (length code) 0)
   astray-at : Sized code → length marks ≡ length code → {pieces : List (List ℕ)} (cut : Cut pieces code) {i : ℕ}
-      → Astray (startsFrom 0 pieces) 0 cut i → Judged code marks (AstrayAt i) (replicate (length code) 0)
+      → Astray (startsFrom 0 pieces) 0 cut i → Judged code marks 23 i (replicate (length code) 0)
   accepted : Sized code → length marks ≡ length code → {pieces : List (List ℕ)} (cut : Cut pieces code)
       → Good (startsFrom 0 pieces) 0 cut
-      → Judged code marks (Accepted (length pieces)) (marked (length code) (startsFrom 0 pieces))
+      → Judged code marks 0 (length pieces) (marked (length code) (startsFrom 0 pieces))

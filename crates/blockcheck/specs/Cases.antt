@@ -3,8 +3,7 @@ use mathlib.Core.Path.{_≡_}
 use mathlib.Core.List.{List, [], _∷_}
 use Prim.Native.Nat.{ℕ}
 use lib.ListN.{length}
-use Rattle.blockcheck.specs.Blocks.{numberOf, valueOf, Judged}
-use Rattle.blockcheck.specs.declared.Verdict.{Verdict}
+use Rattle.blockcheck.specs.Blocks.{Judged}
 
 -- a block, the paper's number and value for it, and the marks left
 pub record BlockCase : Type 0 where
@@ -13,17 +12,14 @@ pub record BlockCase : Type 0 where
   pub value : ℕ
   pub after : List ℕ
 
--- whatever marks of the code's length are lent, the answer is judged so
-pub record Holds (c : BlockCase) (marks : List ℕ) : Type 0 where
-  pub verdict : Verdict
-  pub judged : Judged (c .code) marks verdict (c .after)
-  pub number : numberOf verdict ≡ c .number
-  pub value : valueOf verdict ≡ c .value
+-- the block is judged so, whatever marks of its code's length are lent
+unfoldable pub Holds : BlockCase → Type 0
+Holds c = (marks : List ℕ) → length marks ≡ length (c .code) → Judged (c .code) marks (c .number) (c .value) (c .after)
 
 -- every case of a list
 unfoldable pub All : List BlockCase → Type 0
 All [] = Unit
-All (c ∷ cases) = ((marks : List ℕ) → length marks ≡ length (c .code) → Holds c marks) × All cases
+All (c ∷ cases) = Holds c × All cases
 
 -- EB FE accepted, 1; EB 00 and EB FF 90: 23 at 0; EB FF C0: 21 at 2
 unfoldable pub case-14 : List BlockCase

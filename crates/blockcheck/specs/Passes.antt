@@ -1,4 +1,4 @@
--- What each pass of the block check gives. Assumes nothing.
+-- What each pass of the block check gives: for the private functions on the way, and nothing here need be believed. Assumes nothing.
 use mathlib.Core.Path.{_≡_}
 use mathlib.Core.Bool.{Bool, true, false}
 use mathlib.Core.List.{List, List·Memᴰ}
@@ -10,9 +10,9 @@ use Rattle.grammar.specs.Decoding.{decodeOf}
 use Rattle.grammar.specs.Relative.{relativeOf}
 use Rattle.grammar.specs.declared.instruction.Decoded.{Decoded}
 use Rattle.grammar.specs.declared.instruction.Found.{Found}
-use Rattle.blockcheck.specs.Blocks.{startsFrom, Arrives, Good, Astray, marked, Reached, Judged}
+use Rattle.blockcheck.specs.Blocks.{numberOf, valueOf, startsFrom, Arrives, Good, Astray, marked, Reached, Judged}
 use Rattle.blockcheck.specs.declared.Verdict.{Verdict}
-use Rattle.blockcheck.specs.declared.dividing.Division.{Division}
+use Rattle.blockcheck.specs.declared.dividing.Extent.{Extent}
 
 -- a flag says whether something holds
 pub data Tells (claim : Type 0) : Bool → Type 0 where
@@ -25,12 +25,12 @@ pub record Shows (marks starts : List ℕ) : Type 0 where
   pub one : (i : ℕ) → List·Memᴰ i starts → getD marks i 0 ≡ 1
 
 -- the code is cut whole and its starts are marked, or cutting comes no further than somewhere
-pub data Divided (code : List ℕ) : Division → List ℕ → Type 0 where
-  whole : {pieces : List (List ℕ)} → Cut pieces code → Divided code (Division.Whole (length pieces)) (marked (length code) (startsFrom 0 pieces))
+pub data Divided (code : List ℕ) : Extent → List ℕ → Type 0 where
+  whole : {pieces : List (List ℕ)} → Cut pieces code → Divided code (Extent.Whole (length pieces)) (marked (length code) (startsFrom 0 pieces))
   cut-at : {rest marks : List ℕ} (reached : Reached code rest) → length marks ≡ length code → 0 < length rest → Prefix rest
-      → Divided code (Division.CutAt (length (reached .before))) marks
+      → Divided code (Extent.CutAt (length (reached .before))) marks
   unknown-at : {rest marks : List ℕ} (reached : Reached code rest) → length marks ≡ length code → (Begins rest → ⊥) → (Prefix rest → ⊥)
-      → Divided code (Division.UnknownAt (length (reached .before))) marks
+      → Divided code (Extent.UnknownAt (length (reached .before))) marks
 
 -- the code is cut whole, and the marks show its starts
 pub record Whole (code marks : List ℕ) : Type 0 where
@@ -54,5 +54,6 @@ pub data Sought (code : List ℕ) : ℕ → Type 0 where
   astray-at : {pieces : List (List ℕ)} (cut : Cut pieces code) {i : ℕ} → i < length code → Astray (startsFrom 0 pieces) 0 cut i → Sought code i
 
 -- the answer and the marks left, for marks as long as the code
-unfoldable pub Settled : List ℕ → Verdict → List ℕ → Type 0
-Settled code verdict after = (marks : List ℕ) → length marks ≡ length code → Judged code marks verdict after
+unfoldable pub Concluded : List ℕ → Verdict → List ℕ → Type 0
+Concluded code verdict after =
+    (marks : List ℕ) → length marks ≡ length code → Judged code marks (numberOf verdict) (valueOf verdict) after

@@ -6,7 +6,7 @@ ghost use lib.ListN.{length, replicate};
 ghost use Rattle.blockcheck.specs.Passes.{Divided};
 
 // How far the code can be cut.
-pub enum Division {
+pub enum Extent {
     // To its end, into so many instructions.
     Whole(usize),
     // The code ends inside the instruction here.
@@ -16,7 +16,7 @@ pub enum Division {
 }
 
 // Cuts the code, and marks each start on cleared marks.
-pub fn divide(code: &[u8], marks: &mut [u8]) -> Division
+pub fn divide(code: &[u8], marks: &mut [u8]) -> Extent
     requires { ⌜ now marks ≡ replicate (length (now code)) 0 ⌝ }
     ensures { λ r. ⌜ Divided (now (code .entry)) r (now (marks .exit)) ⌝ }
 {
@@ -29,9 +29,9 @@ pub fn divide(code: &[u8], marks: &mut [u8]) -> Division
                 at += d.length;
                 count += 1;
             }
-            Found::Cut => return Division::CutAt(at),
-            Found::Unknown => return Division::UnknownAt(at),
+            Found::Cut => return Extent::CutAt(at),
+            Found::Unknown => return Extent::UnknownAt(at),
         }
     }
-    Division::Whole(count)
+    Extent::Whole(count)
 }

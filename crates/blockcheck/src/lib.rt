@@ -3,15 +3,15 @@ mod dividing;
 mod landing;
 mod marks;
 
-use crate::dividing::Division;
+use crate::dividing::Extent;
 use crate::dividing::divide;
 use crate::landing::first_astray;
 use crate::marks::clear;
 ghost use mathlib.Core.Path.{_≡_};
 ghost use lib.ListN.{length};
-ghost use Rattle.blockcheck.specs.Blocks.{Sized, Judged};
-ghost use Rattle.blockcheck.specs.Passes.{Divided, Settled};
-ghost use Rattle.blockcheck.specs.declared.dividing.Division.{Division};
+ghost use Rattle.blockcheck.specs.Blocks.{numberOf, valueOf, Sized, Judged};
+ghost use Rattle.blockcheck.specs.Passes.{Divided, Concluded};
+ghost use Rattle.blockcheck.specs.declared.dividing.Extent.{Extent};
 
 // What the check answers. The count of instructions, or where the block fails.
 pub enum Verdict {
@@ -29,9 +29,9 @@ pub enum Verdict {
 }
 
 // The answer for code that is cut whole, so many instructions being marked.
-fn settle(code: &[u8], marks: &mut [u8], count: usize) -> Verdict
-    requires { ⌜ Sized (now code) × Divided (now code) (Division.Whole count) (now marks) ⌝ }
-    ensures { λ r. ⌜ Settled (now (code .entry)) r (now (marks .exit)) ⌝ }
+fn conclude(code: &[u8], marks: &mut [u8], count: usize) -> Verdict
+    requires { ⌜ Sized (now code) × Divided (now code) (Extent.Whole count) (now marks) ⌝ }
+    ensures { λ r. ⌜ Concluded (now (code .entry)) r (now (marks .exit)) ⌝ }
 {
     let i = first_astray(code, marks);
     if i < code.len() {
@@ -44,16 +44,16 @@ fn settle(code: &[u8], marks: &mut [u8], count: usize) -> Verdict
 // The answer for code and marks of one length.
 fn judge(code: &[u8], marks: &mut [u8]) -> Verdict
     requires { ⌜ Sized (now code) × (length (now marks) ≡ length (now code)) ⌝ }
-    ensures { λ r. ⌜ Settled (now (code .entry)) r (now (marks .exit)) ⌝ }
+    ensures { λ r. ⌜ Concluded (now (code .entry)) r (now (marks .exit)) ⌝ }
 {
     clear(marks);
     match divide(code, marks) {
-        Division::Whole(count) => settle(code, marks, count),
-        Division::CutAt(i) => {
+        Extent::Whole(count) => conclude(code, marks, count),
+        Extent::CutAt(i) => {
             clear(marks);
             Verdict::CutAt(i)
         }
-        Division::UnknownAt(i) => {
+        Extent::UnknownAt(i) => {
             clear(marks);
             Verdict::UnknownAt(i)
         }
@@ -62,7 +62,7 @@ fn judge(code: &[u8], marks: &mut [u8]) -> Verdict
 
 // Checks a block of code and marks its starts; a refusal leaves no mark, or none changed where a length is wrong.
 pub fn check(code: &[u8], marks: &mut [u8]) -> Verdict
-    ensures { λ r. ⌜ Judged (now (code .entry)) (now (marks .entry)) r (now (marks .exit)) ⌝ }
+    ensures { λ r. ⌜ Judged (now (code .entry)) (now (marks .entry)) (numberOf r) (valueOf r) (now (marks .exit)) ⌝ }
 {
     if code.len() == 0 || code.len() > 65536 {
         return Verdict::BadLength;

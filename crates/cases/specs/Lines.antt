@@ -74,12 +74,12 @@ pub data Case : Type 0 where
   bytes : Bytes.BytesCase → Case
   block : Blocks.BlockCase → Case
 
--- it holds; of the block check, whatever marks of the code's length are lent
+-- it holds
 unfoldable pub Holds : Case → Type 0
 Holds (run c) = Gives c
 Holds (keeps code) = Keeps code
 Holds (bytes c) = Bytes.Holds (c .says) (c .bytes)
-Holds (block c) = (marks : List ℕ) → length marks ≡ length (c .code) → Blocks.Holds c marks
+Holds (block c) = Blocks.Holds c
 
 -- each line of a table holds
 unfoldable pub All : List Case → Type 0

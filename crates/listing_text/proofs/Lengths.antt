@@ -15,8 +15,7 @@ use Rattle.grammar.specs.Decoding.{decodeOf}
 use Rattle.grammar.specs.declared.instruction.Decoded.{Decoded}
 use Rattle.grammar.specs.declared.instruction.Found.{Found}
 use Rattle.grammar.proofs.Answered.{Standing, found-standing, found-inside, instruction-some}
-use Rattle.blockcheck.specs.Blocks.{numberOf, valueOf, Astray, Reached, Judged, bad-length, bad-marks, cut-at, unknown-at, astray-at, accepted}
-use Rattle.blockcheck.specs.declared.Verdict.{Verdict}
+use Rattle.blockcheck.specs.Blocks.{Astray, Reached, Judged, bad-length, bad-marks, cut-at, unknown-at, astray-at, accepted}
 use Rattle.text.specs.Ascii.{ascii}
 use Rattle.text.specs.Digits.{hexadecimal}
 use Rattle.text.proofs.Writing.{within, wrote-whole}
@@ -107,27 +106,27 @@ before-inside : {code rest : List ℕ} (r : Reached code rest) → length (r .be
 before-inside r = omega (arith, simp length-append at (ap length (r .joined)))
 
 -- a refusal's line is short
-refusal-short : (v : Verdict) → numberOf v < 100 → valueOf v ≤ 65536 → length (refusal v) ≤ 20
+refusal-short : (number offset : ℕ) → number < 100 → offset ≤ 65536 → length (refusal number offset) ≤ 20
 unfolding refusal refusedWord ascii
-refusal-short v number offset =
-    simp length-append (omega (arith, field-short (numberOf v) tab (omega arith), field-short (valueOf v) newline offset))
+refusal-short number offset few inside =
+    simp length-append (omega (arith, field-short number tab (omega arith), field-short offset newline inside))
 
 -- no text is longer than the longest
-pub text-short : {code marks marksAfter : List ℕ} {v : Verdict} → Judged code marks v marksAfter → length (textOf code v) ≤ longest
+pub text-short : {code marks marksAfter : List ℕ} {number value : ℕ} → Judged code marks number value marksAfter → length (textOf code number value) ≤ longest
 unfolding textOf bodyOf header acceptedWord ascii
-text-short (bad-length r) = rw length-append (omega (arith, refusal-short Verdict.BadLength (omega arith) (omega arith)))
-text-short (bad-marks s r) = rw length-append (omega (arith, refusal-short Verdict.BadMarks (omega arith) (omega arith)))
+text-short (bad-length r) = rw length-append (omega (arith, refusal-short 10 0 (omega arith) (omega arith)))
+text-short (bad-marks s r) = rw length-append (omega (arith, refusal-short 14 0 (omega arith) (omega arith)))
 text-short (cut-at s l r some prefix) =
-    rw length-append (omega (arith, refusal-short (Verdict.CutAt (length (r .before))) (omega arith) (omega (arith, before-inside r, s .most))))
+    rw length-append (omega (arith, refusal-short 21 (length (r .before)) (omega arith) (omega (arith, before-inside r, s .most))))
 text-short (unknown-at s l r begins prefix) =
-    rw length-append (omega (arith, refusal-short (Verdict.UnknownAt (length (r .before))) (omega arith) (omega (arith, before-inside r, s .most))))
+    rw length-append (omega (arith, refusal-short 22 (length (r .before)) (omega arith) (omega (arith, before-inside r, s .most))))
 text-short (astray-at s l cut {i} astray) =
-    rw length-append (omega (arith, refusal-short (Verdict.AstrayAt i) (omega arith) (omega (arith, astray-inside _ 0 i cut astray, s .most))))
+    rw length-append (omega (arith, refusal-short 23 i (omega arith) (omega (arith, astray-inside _ 0 i cut astray, s .most))))
 text-short {code} (accepted s l {pieces} cut good) =
     simp length-append
     (omega (arith, lines-short code (length pieces) 0 (s .most), field-short (length pieces) newline (omega (arith, pieces-few cut, s .most)), s .most))
 
 -- a buffer as long as the longest holds the whole text, up to the place given
 pub listed-whole : {code marks out marksAfter outAfter : List ℕ} {next : ℕ} (l : Listed code marks out next marksAfter outAfter)
-    → longest ≤ length out → take next outAfter ≡ textOf code (l .verdict)
+    → longest ≤ length out → take next outAfter ≡ textOf code (l .number) (l .value)
 listed-whole l room = wrote-whole (l .wrote) (omega (arith, text-short (l .judged)))

@@ -9,7 +9,7 @@ use Rattle.listing_text.specs.Listing.{Listed}
 pub listed-unique : {code marks out marks₁ marks₂ out₁ out₂ : List ℕ} {next₁ next₂ : ℕ} → Listed code marks out next₁ marks₁ out₁
     → Listed code marks out next₂ marks₂ out₂ → (next₁ ≡ next₂) × (marks₁ ≡ marks₂) × (out₁ ≡ out₂)
 listed-unique a b =
-    let (verdict, marks) = judged-unique (a .judged) (b .judged) in
+    let (number, value, marks) = judged-unique (a .judged) (b .judged) in
     let next = a .wrote .place in
     let other-next = b .wrote .place in
     let out = a .wrote .holds in

@@ -7,9 +7,7 @@ use Rattle.grammar.specs.Choice.{pick}
 use Rattle.grammar.specs.Grammar.{opcodeBytes, Instruction, Cut, done, next}
 use Rattle.grammar.specs.Decoding.{decodeOf}
 use Rattle.grammar.specs.declared.instruction.Found.{Found}
-use Rattle.blockcheck.specs.Blocks.{numberOf, valueOf, Judged}
-use Rattle.blockcheck.specs.declared.Verdict.{Verdict}
-use Rattle.blockcheck.specs.declared.Verdict.the-variants.{Accepted, BadLength, BadMarks, CutAt, UnknownAt, AstrayAt}
+use Rattle.blockcheck.specs.Blocks.{Judged}
 use Rattle.text.specs.Ascii.{ascii}
 use Rattle.text.specs.Written.{Wrote}
 use Rattle.text.specs.Digits.{decimal, hexadecimal}
@@ -73,28 +71,25 @@ cutLines i done = []
 cutLines i (next {bytes} instruction later) = instructionLine i bytes instruction ++ cutLines (i + length bytes) later
 
 -- the line of a refused block: the number and the offset
-unfoldable pub refusal : Verdict → List ℕ
-refusal v = refusedWord ++ field (numberOf v) tab ++ field (valueOf v) newline
+unfoldable pub refusal : ℕ → ℕ → List ℕ
+refusal number offset = refusedWord ++ field number tab ++ field offset newline
 
--- what follows the header
-unfoldable pub bodyOf : List ℕ → Verdict → List ℕ
-bodyOf code (Accepted n) = linesFrom code n 0 ++ acceptedWord ++ field n newline
-bodyOf code BadLength = refusal BadLength
-bodyOf code BadMarks = refusal BadMarks
-bodyOf code (CutAt i) = refusal (CutAt i)
-bodyOf code (UnknownAt i) = refusal (UnknownAt i)
-bodyOf code (AstrayAt i) = refusal (AstrayAt i)
+-- what follows the header, by the paper's number and value: the lines and the count where it is 0
+unfoldable pub bodyOf : List ℕ → ℕ → ℕ → List ℕ
+bodyOf code zero count = linesFrom code count 0 ++ acceptedWord ++ field count newline
+bodyOf code (suc n) offset = refusal (suc n) offset
 
 -- the whole text
-unfoldable pub textOf : List ℕ → Verdict → List ℕ
-textOf code v = header ++ bodyOf code v
+unfoldable pub textOf : List ℕ → ℕ → ℕ → List ℕ
+textOf code number value = header ++ bodyOf code number value
 
 -- as long as the header, 65,536 lines of 12 bytes and the last line: no text is longer
 abbrev pub longest : ℕ
 longest = 786468
 
--- a block is listed: the check's answer, its marks, and its text from the start of a buffer on
+-- a block is listed: the check's number and value, its marks, and its text from the start of a buffer on
 pub record Listed (code marks out : List ℕ) (next : ℕ) (marksAfter outAfter : List ℕ) : Type 0 where
-  pub verdict : Verdict
-  pub judged : Judged code marks verdict marksAfter
-  pub wrote : Wrote out 0 (textOf code verdict) next outAfter
+  pub number : ℕ
+  pub value : ℕ
+  pub judged : Judged code marks number value marksAfter
+  pub wrote : Wrote out 0 (textOf code number value) next outAfter

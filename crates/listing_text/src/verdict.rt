@@ -4,6 +4,7 @@ use crate::lines::put_lines;
 use blockcheck::Verdict;
 use text::put_bytes;
 ghost use mathlib.Core.List.{_++_};
+ghost use Rattle.blockcheck.specs.Blocks.{numberOf, valueOf};
 ghost use Rattle.text.specs.Written.{Wrote};
 ghost use Rattle.listing_text.specs.Listing.{tab, newline, refusedWord, acceptedWord, field, linesFrom, bodyOf, textOf};
 
@@ -27,7 +28,7 @@ fn put_refused(out: &mut [u8], at: usize, number: usize, offset: usize) -> usize
 
 // What follows the header.
 fn put_body(code: &[u8], verdict: Verdict, out: &mut [u8], at: usize) -> usize
-    ensures { λ r. ⌜ Wrote (now (out .entry)) at (bodyOf (now (code .entry)) verdict) r (now (out .exit)) ⌝ }
+    ensures { λ r. ⌜ Wrote (now (out .entry)) at (bodyOf (now (code .entry)) (numberOf verdict) (valueOf verdict)) r (now (out .exit)) ⌝ }
 {
     match verdict {
         Verdict::Accepted(count) => put_accepted(code, count, out, at),
@@ -41,7 +42,7 @@ fn put_body(code: &[u8], verdict: Verdict, out: &mut [u8], at: usize) -> usize
 
 // The whole text, from the start of the buffer on.
 pub fn put_text(code: &[u8], verdict: Verdict, out: &mut [u8]) -> usize
-    ensures { λ r. ⌜ Wrote (now (out .entry)) 0 (textOf (now (code .entry)) verdict) r (now (out .exit)) ⌝ }
+    ensures { λ r. ⌜ Wrote (now (out .entry)) 0 (textOf (now (code .entry)) (numberOf verdict) (valueOf verdict)) r (now (out .exit)) ⌝ }
 {
     let next = put_bytes(out, 0, b"offset\tlength\topcode\n");
     put_body(code, verdict, out, next)

@@ -1,4 +1,4 @@
--- How the step's code fetches what an operation reads before the effect. Assumes nothing.
+-- How the step's code fetches what an operation reads before the effect: for its private functions on the way; nothing here need be believed. Assumes nothing.
 use mathlib.Core.Path.{_≡_}
 use mathlib.Core.List.{List}
 use Prim.Native.Nat.{ℕ}

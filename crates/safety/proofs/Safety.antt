@@ -10,7 +10,6 @@ use Rattle.flags.specs.Word.{passes}
 use Rattle.machine.specs.declared.registers.Machine.{Machine}
 use Rattle.blockcheck.specs.Blocks.{codeBase, Judged}
 use Rattle.blockcheck.specs.Starts.{Start, Acceptable}
-use Rattle.blockcheck.specs.declared.Verdict.{Verdict}
 use Rattle.blockcheck.proofs.Starts.{zero-is-start}
 use Rattle.blockcheck.proofs.Verdicts.{accepted-acceptable}
 use Rattle.run.specs.declared.Lent.{Lent}
@@ -53,7 +52,7 @@ refusal-readable code-length data-length word budget =
     let by-data = chosen Readable (ltb 65_536 data-length) (late 11 (omega arith)) by-word in
     chosen Readable (eqb code-length 0 || ltb 65_536 code-length) (late 10 (omega arith)) by-data
 
-module _ {code marks after : List ℕ} {count : ℕ} (judged : Judged code marks (Verdict.Accepted count) after) where
+module _ {code marks after : List ℕ} {count : ℕ} (judged : Judged code marks 0 count after) where
   -- from a landed address, no number of steps of accepted code gives 3 or 4
   pub never-unreadable : (m : Machine) (d : List ℕ) → Landed code (m .eip) → (b k : ℕ) → Guided code b m d
       → Readable ((runFrom code b m d k) .number)

@@ -12,8 +12,7 @@ use Rattle.grammar.specs.Grammar.{Cut, done, next}
 use Rattle.grammar.proofs.Answered.{instruction-some}
 use Rattle.flags.specs.Word.{passes}
 use Rattle.machine.specs.declared.registers.Machine.{Machine}
-use Rattle.blockcheck.specs.declared.Verdict.{Verdict}
-use Rattle.blockcheck.specs.Blocks.{valueOf, Astray, Judged, bad-length, bad-marks, cut-at, unknown-at, astray-at, accepted}
+use Rattle.blockcheck.specs.Blocks.{Astray, Judged, bad-length, bad-marks, cut-at, unknown-at, astray-at, accepted}
 use Rattle.run.specs.declared.Lent.{Lent}
 use Rattle.run.specs.Steps.{stepOf, Moved}
 use Rattle.run.specs.Runs.{Ended, onMoved, runFrom, refusal, opened, taken, refused, runOf}
@@ -82,7 +81,7 @@ astray-within starts i k (next {bytes} instruction later) (inr (lawful, after)) 
     simp length-append (omega arith)
 
 -- the count or the offset of a check fits a word
-pub value-fits : {code marks after : List ℕ} {verdict : Verdict} → Judged code marks verdict after → valueOf verdict < 2 ^ 32
+pub value-fits : {code marks after : List ℕ} {number value : ℕ} → Judged code marks number value after → value < 2 ^ 32
 value-fits (bad-length wrong) = omega arith
 value-fits (bad-marks sized wrong) = omega arith
 value-fits (cut-at sized long reached some prefix) = omega (arith, sized .most, simp length-append at (ap length (reached .joined)))

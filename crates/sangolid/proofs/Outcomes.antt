@@ -6,8 +6,6 @@ use native.Mathlib.Omega.{arith}
 use lib.ListN.{length, getD, take, drop}
 use lib.Seq.{drop-cons}
 use borrow.Author.Tests.{eq-eqb, ne-eqb}
-use Rattle.blockcheck.specs.declared.Verdict.{Verdict}
-use Rattle.blockcheck.specs.Blocks.{numberOf, valueOf}
 use Rattle.blockcheck.proofs.Verdicts.{judged-unique}
 use Rattle.run.specs.Runs.{refusal, refused, runOf}
 use Rattle.sangolid.specs.Interface.{lentOf, stateOf, Call, called, callOf, Calls, Checks, unfit, judged}
@@ -23,8 +21,8 @@ checks-unique (unfit p) (unfit q) = (refl, refl, refl)
 checks-unique (unfit p) (judged q k) = absurd (p q)
 checks-unique (judged p j) (unfit q) = absurd (q p)
 checks-unique (judged p j) (judged q k) =
-    let (verdict, marks) = judged-unique j k in
-    (ap numberOf verdict, marks, ap (λ (v : Verdict). valueOf v ∷ []) verdict)
+    let (number, value, marks) = judged-unique j k in
+    (number, marks, ap (λ (v : ℕ). v ∷ []) value)
 
 -- so many elements from a place on, one by one
 abbrev pub listed : ℕ → ℕ → List ℕ → List ℕ

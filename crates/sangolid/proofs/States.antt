@@ -6,8 +6,7 @@ use native.Mathlib.Omega.{arith}
 use lib.ListN.{length, drop, getD, set}
 use lib.Seq.{sets, sets-eq, drop-length}
 use borrow.Author.Tests.{eq-eqb, ne-eqb}
-use Rattle.blockcheck.specs.declared.Verdict.{Verdict}
-use Rattle.blockcheck.specs.Blocks.{numberOf, valueOf, Judged}
+use Rattle.blockcheck.specs.Blocks.{Judged}
 use Rattle.run.specs.declared.Lent.{Lent}
 use Rattle.run.specs.declared.Ran.{Ran}
 use Rattle.run.specs.Runs.{Runs, runOf}
@@ -66,8 +65,8 @@ pub ran-fits : (code : List ℕ) (l : Lent) (d : List ℕ) (budget : ℕ) {r : R
 ran-fits code l d budget runs = rw (runs .is) (steps-fit code l d budget)
 
 -- the answer is written whole
-pub checks-judged : {code marks answer after : List ℕ} {verdict : Verdict} {n value : ℕ} → length answer ≡ 1 → Judged code marks verdict after
-    → n ≡ numberOf verdict
-    → value ≡ valueOf verdict
-    → Checks code marks answer n after (set answer 0 value)
-checks-judged {answer} {value} long judging number worth = rw (sets-whole (value ∷ []) answer long, number, worth) (judged long judging)
+pub checks-judged : {code marks answer after : List ℕ} {n number v value : ℕ} → length answer ≡ 1 → Judged code marks number value after
+    → n ≡ number
+    → v ≡ value
+    → Checks code marks answer n after (set answer 0 v)
+checks-judged {answer} {v} long judging numbered worth = rw (sets-whole (v ∷ []) answer long, numbered, worth) (judged long judging)

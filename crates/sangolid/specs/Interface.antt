@@ -8,8 +8,7 @@ use lib.ListN.{length, getD}
 use Rattle.run.specs.declared.Lent.{Lent}
 use Rattle.run.specs.declared.Ran.{Ran}
 use Rattle.run.specs.Runs.{HandedBack, runOf}
-use Rattle.blockcheck.specs.declared.Verdict.{Verdict}
-use Rattle.blockcheck.specs.Blocks.{numberOf, valueOf, Judged}
+use Rattle.blockcheck.specs.Blocks.{Judged}
 
 -- the number for a state or an answer area of another length
 unfoldable pub misfit : ℕ
@@ -66,5 +65,5 @@ pub record Calls (call : Call) (number : ℕ) (state area : List ℕ) : Type 0 w
 -- the number that a check returns, the marks and the answer after: with an answer area of one word the block is judged; any other changes nothing
 pub data Checks (code marks answer : List ℕ) : ℕ → List ℕ → List ℕ → Type 0 where
   unfit : (length answer ≡ 1 → ⊥) → Checks code marks answer misfit marks answer
-  judged : length answer ≡ 1 → {verdict : Verdict} {after : List ℕ} → Judged code marks verdict after
-      → Checks code marks answer (numberOf verdict) after (valueOf verdict ∷ [])
+  judged : length answer ≡ 1 → {number value : ℕ} {after : List ℕ} → Judged code marks number value after
+      → Checks code marks answer number after (value ∷ [])

@@ -1,4 +1,4 @@
--- Places in a line: where a field ends, and where one begins. Assumes nothing.
+-- Places in a line, where a field ends and where one begins: for the private functions on the way; nothing here need be believed. Assumes nothing.
 use mathlib.Core.Path.{_≡_}
 use mathlib.Core.Bool.{cond}
 use mathlib.Core.List.{List, [], _∷_}

@@ -4,7 +4,7 @@ use Prim.Native.Nat.{_-_}
 use native.Mathlib.Omega.{arith}
 use lib.ListN.{length, length-replicate}
 use borrow.Author.Needs.{needs}
-use Rattle.blockcheck.proofs.Divisions.{Dividing, begins, goes, as-long, ends, cuts, stops}
+use Rattle.blockcheck.proofs.Extents.{Dividing, begins, goes, as-long, ends, cuts, stops}
 use Rattle.blockcheck.proofs.dividing.divide.Statement.{statement}
 use Rattle.blockcheck.proofs.dividing.divide.Tie as tie
 use Rattle.grammar.proofs.Answered.{found-standing}

@@ -13,7 +13,7 @@ use Rattle.grammar.specs.declared.instruction.Found.{Found}
 use Rattle.grammar.proofs.Answered.{decode-answers, found-standing, found-inside}
 use Rattle.blockcheck.specs.Blocks.{startsFrom, marked, Reached}
 use Rattle.blockcheck.specs.Passes.{Divided, whole, cut-at, unknown-at}
-use Rattle.blockcheck.specs.declared.dividing.Division.{Division}
+use Rattle.blockcheck.specs.declared.dividing.Extent.{Extent}
 use Rattle.blockcheck.proofs.Marking.{marked-length, marked-more, starts-append}
 
 -- the code before a place is cut into so many instructions, and their starts are marked
@@ -62,7 +62,7 @@ abbrev reached : {code marks : List ℕ} {at count : ℕ} → Dividing code mark
 reached {code} {at} so = record { before = take at code; pieces = so .pieces; cut = so .before; joined = take-append-drop at code }
 
 -- at the code's end it is cut whole
-pub ends : {code marks : List ℕ} {at count : ℕ} → Dividing code marks at count → length code ≤ at → Divided code (Division.Whole count) marks
+pub ends : {code marks : List ℕ} {at count : ℕ} → Dividing code marks at count → length code ≤ at → Divided code (Extent.Whole count) marks
 ends {code} {at} so h =
     let all : take at code ≡ code = take-all at code h in
     let c : Cut (so .pieces) code = rw all at (so .before) in
@@ -74,11 +74,11 @@ prefix-of (cut p) = p
 
 -- the code ends inside the instruction at the place
 pub cuts : {code marks : List ℕ} {at count : ℕ} → Dividing code marks at count → at < length code → decodeOf code at ≡ Found.Cut
-    → Divided code (Division.CutAt at) marks
+    → Divided code (Extent.CutAt at) marks
 cuts {code} {marks} {at} so h e =
     let here : length (take at code) ≡ at = length-take-le at code (so .inside) in
     let p = prefix-of (rw e at (decode-answers code at)) in
-    let is : Divided code (Division.CutAt (length (take at code))) marks = cut-at (reached so) (as-long so) (simp length-drop (omega arith)) p in
+    let is : Divided code (Extent.CutAt (length (take at code))) marks = cut-at (reached so) (as-long so) (simp length-drop (omega arith)) p in
     rw here at is
 
 -- where nothing is found, the bytes neither begin with an instruction nor are a prefix of one
@@ -87,9 +87,9 @@ unknown-of (unknown b p) = (b, p)
 
 -- no instruction begins at the place
 pub stops : {code marks : List ℕ} {at count : ℕ} → Dividing code marks at count → decodeOf code at ≡ Found.Unknown
-    → Divided code (Division.UnknownAt at) marks
+    → Divided code (Extent.UnknownAt at) marks
 stops {code} {marks} {at} so e =
     let here : length (take at code) ≡ at = length-take-le at code (so .inside) in
     let (b, p) = unknown-of (rw e at (decode-answers code at)) in
-    let is : Divided code (Division.UnknownAt (length (take at code))) marks = unknown-at (reached so) (as-long so) b p in
+    let is : Divided code (Extent.UnknownAt (length (take at code))) marks = unknown-at (reached so) (as-long so) b p in
     rw here at is
