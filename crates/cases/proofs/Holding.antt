@@ -65,8 +65,8 @@ unfolding All Holds Gives cases-1-to-12 ones codeBase
     Operations.binaryAt Operations.shiftAt Operations.productAt Operations.operationOf
     Senses.senses Senses.senseOf
     Addresses.scaledIndex Addresses.baseRegister Addresses.addressBase Addresses.effectiveAddress
-    Plans.sizeOf Plans.operandOf Plans.nextOf Plans.planFor Plans.planOf
-    Words.becomes Words.faults Words.onward Words.value Words.assign Words.addressOf Words.readOr Words.readOf Words.writes
+    Plans.sizeOf Plans.operandOf Plans.isOffset Plans.addressIn Plans.nextOf Plans.planFor Plans.planOf
+    Words.becomes Words.faults Words.onward Words.value Words.assign Words.readOr Words.readOf Words.writes
     Arithmetic.arithmeticReads Arithmetic.assigns Arithmetic.settled Arithmetic.binary Arithmetic.single Arithmetic.shift Arithmetic.upper Arithmetic.doubled Arithmetic.quotient Arithmetic.divided Arithmetic.dividedSigned Arithmetic.arithmeticEffect
     Moves.moveReads Moves.moveEffect
     Branches.counted

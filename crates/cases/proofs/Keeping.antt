@@ -55,7 +55,7 @@ unfolding Keeps Gives
     LittleEndian.littleEndian Answers.displaced Reading.run Reading.bytesThen
     Decoding.tailTree Decoding.addressTree Decoding.modrmTree Decoding.operandTree Decoding.accepts Decoding.entryTree Decoding.opcodeTree Decoding.firstTree Decoding.tree Decoding.answer Decoding.found Decoding.decodeOf
     Operations.shiftAt Operations.operationOf Senses.senses Senses.senseOf
-    Plans.sizeOf Plans.operandOf Plans.nextOf Plans.planFor Plans.planOf
+    Plans.sizeOf Plans.operandOf Plans.isOffset Plans.addressIn Plans.nextOf Plans.planFor Plans.planOf
     Words.becomes Words.onward Words.value Words.assign Words.readOr Words.readOf
     Arithmetic.arithmeticReads Arithmetic.settled Arithmetic.shift Arithmetic.arithmeticEffect
     Effects.readsBy Effects.effectBy

@@ -76,7 +76,7 @@ module _ {m : Machine} {a : ℕ} {after : Machine} (h : At m a after) where
   operand-set : (o : Operand) (w : Size) (v : ℕ) → At m a (assigned o after w v)
   unfolding assigned
   operand-set (Register i) w v = part-set w i v
-  operand-set (Memory b) w v = h
+  operand-set Memory w v = h
   operand-set (Number n) w v = h
 
   -- an effect with no write has its machine's
@@ -101,11 +101,11 @@ module _ {m : Machine} {a : ℕ} {after : Machine} (h : At m a after) where
   halves-set w low high = part-set (part-set h w 0 low) w _ high
 
   -- an effect that assigns an operand has its machine's
-  of-assign : (o : Operand) (w : Size) (v : ℕ) → At m a ((assign o after w v) .machine)
+  of-assign : (o : Operand) (b : ℕ) (w : Size) (v : ℕ) → At m a ((assign o b after w v) .machine)
   unfolding assign
-  of-assign (Register i) w v = of-becomes (part-set h w i v)
-  of-assign (Memory b) w v = of-writes h w b v
-  of-assign (Number n) w v = of-becomes h
+  of-assign (Register i) b w v = of-becomes (part-set h w i v)
+  of-assign Memory b w v = of-writes h w b v
+  of-assign (Number n) b w v = of-becomes h
 
   -- so has one that pushes a number
   of-pushed : (v : ℕ) → At m a ((pushed after v) .machine)
@@ -144,9 +144,9 @@ either true x y = x
 either false x y = y
 
 -- an operation whose value is assigned or not falls
-settled-course : (c : Computed) (m : Machine) (p : Plan) → Course m p false (settled c m p)
+settled-course : (c : Computed) (m : Machine) (p : Plan) (a : ℕ) → Course m p false (settled c m p a)
 unfolding settled
-settled-course c m p = either (c .assigned) (falling (of-assign (flags-set (on m p) _) _ _ _)) (falling (of-becomes (flags-set (on m p) _)))
+settled-course c m p a = either (c .assigned) (falling (of-assign (flags-set (on m p) _) _ a _ _)) (falling (of-becomes (flags-set (on m p) _)))
 
 -- a division stays with a fault, and else falls
 quotient-course : (d : Division) (m : Machine) (p : Plan) → Course m p false (quotient d m p)
@@ -155,42 +155,42 @@ quotient-course Fault m p = staying (here m)
 quotient-course (Parts q r) m p = falling (of-becomes (halves-set (flags-set (on m p) _) _ q r))
 
 -- an operation that computes falls, but for a division's fault
-arithmetic-course : (op : Arithmetic) (m : Machine) (p : Plan) (r : ℕ) → Course m p false (arithmeticEffect op m p r)
+arithmetic-course : (op : Arithmetic) (m : Machine) (p : Plan) (a r : ℕ) → Course m p false (arithmeticEffect op m p a r)
 unfolding arithmeticEffect multiplied multipliedSigned divided dividedSigned
-arithmetic-course (Arithmetic.Binary op) m p r = settled-course _ m p
-arithmetic-course Arithmetic.Test m p r = settled-course _ m p
-arithmetic-course (Arithmetic.Single op) m p r = settled-course _ m p
-arithmetic-course (Arithmetic.Shift op) m p r = settled-course _ m p
-arithmetic-course Arithmetic.Mul m p r = falling (of-becomes (halves-set (flags-set (on m p) _) _ _ _))
-arithmetic-course Arithmetic.Imul m p r = falling (of-becomes (halves-set (flags-set (on m p) _) _ _ _))
-arithmetic-course Arithmetic.ImulLow m p r = settled-course _ m p
-arithmetic-course Arithmetic.Div m p r = quotient-course _ m p
-arithmetic-course Arithmetic.Idiv m p r = quotient-course _ m p
+arithmetic-course (Arithmetic.Binary op) m p a r = settled-course _ m p a
+arithmetic-course Arithmetic.Test m p a r = settled-course _ m p a
+arithmetic-course (Arithmetic.Single op) m p a r = settled-course _ m p a
+arithmetic-course (Arithmetic.Shift op) m p a r = settled-course _ m p a
+arithmetic-course Arithmetic.Mul m p a r = falling (of-becomes (halves-set (flags-set (on m p) _) _ _ _))
+arithmetic-course Arithmetic.Imul m p a r = falling (of-becomes (halves-set (flags-set (on m p) _) _ _ _))
+arithmetic-course Arithmetic.ImulLow m p a r = settled-course _ m p a
+arithmetic-course Arithmetic.Div m p a r = quotient-course _ m p
+arithmetic-course Arithmetic.Idiv m p a r = quotient-course _ m p
 
 -- an operation that moves a value falls
-move-course : (op : Move) (m : Machine) (p : Plan) (r : ℕ) → Course m p false (moveEffect op m p r)
+move-course : (op : Move) (m : Machine) (p : Plan) (a r : ℕ) → Course m p false (moveEffect op m p a r)
 unfolding moveEffect exchanged
-move-course Move.Mov m p r = falling (of-assign (on m p) _ _ _)
-move-course (Move.MovZero from) m p r = falling (of-assign (on m p) _ _ _)
-move-course (Move.MovSign from) m p r = falling (of-assign (on m p) _ _ _)
-move-course Move.Lea m p r = falling (of-assign (on m p) _ _ _)
-move-course Move.Xchg m p r = falling (of-assign (operand-set (on m p) _ _ _) _ _ _)
-move-course Move.Convert m p r = falling (of-becomes (part-set (on m p) _ _ _))
-move-course Move.Spread m p r = falling (of-becomes (part-set (on m p) _ _ _))
-move-course Move.Bswap m p r = falling (of-assign (on m p) _ _ _)
-move-course (Move.Set n) m p r = falling (of-assign (on m p) _ _ _)
-move-course Move.Lahf m p r = falling (of-becomes (part-set (on m p) _ _ _))
-move-course Move.Sahf m p r = falling (of-becomes (flags-set (on m p) _))
+move-course Move.Mov m p a r = falling (of-assign (on m p) _ a _ _)
+move-course (Move.MovZero from) m p a r = falling (of-assign (on m p) _ a _ _)
+move-course (Move.MovSign from) m p a r = falling (of-assign (on m p) _ a _ _)
+move-course Move.Lea m p a r = falling (of-assign (on m p) _ a _ _)
+move-course Move.Xchg m p a r = falling (of-assign (operand-set (on m p) _ _ _) _ a _ _)
+move-course Move.Convert m p a r = falling (of-becomes (part-set (on m p) _ _ _))
+move-course Move.Spread m p a r = falling (of-becomes (part-set (on m p) _ _ _))
+move-course Move.Bswap m p a r = falling (of-assign (on m p) _ a _ _)
+move-course (Move.Set n) m p a r = falling (of-assign (on m p) _ a _ _)
+move-course Move.Lahf m p a r = falling (of-becomes (part-set (on m p) _ _ _))
+move-course Move.Sahf m p a r = falling (of-becomes (flags-set (on m p) _))
 
 -- an operation on the stack falls, but for a call, which leads or goes through its operand, and a return
-stack-course : (op : Stack) (m : Machine) (p : Plan) (r : ℕ) → Course m p (indirectStack op) (stackEffect op m p r)
+stack-course : (op : Stack) (m : Machine) (p : Plan) (a r : ℕ) → Course m p (indirectStack op) (stackEffect op m p a r)
 unfolding stackEffect indirectStack
-stack-course Stack.Push m p r = falling (of-pushed (on m p) _)
-stack-course Stack.Pop m p r = falling (of-assign (register-set (on m p) _ _) _ _ _)
-stack-course Stack.Leave m p r = falling (of-becomes (register-set (register-set (on m p) _ _) _ _))
-stack-course Stack.Call m p r = leading (of-pushed (eip-set (here m) refl) _)
-stack-course Stack.CallTo m p r = anywhere (of-pushed (eip-set (here m) refl) _)
-stack-course Stack.Return m p r = anywhere (of-becomes (register-set (eip-set (here m) refl) _ _))
+stack-course Stack.Push m p a r = falling (of-pushed (on m p) _)
+stack-course Stack.Pop m p a r = falling (of-assign (register-set (on m p) _ _) _ a _ _)
+stack-course Stack.Leave m p a r = falling (of-becomes (register-set (register-set (on m p) _ _) _ _))
+stack-course Stack.Call m p a r = leading (of-pushed (eip-set (here m) refl) _)
+stack-course Stack.CallTo m p a r = anywhere (of-pushed (eip-set (here m) refl) _)
+stack-course Stack.Return m p a r = anywhere (of-becomes (register-set (eip-set (here m) refl) _ _))
 
 -- a branch leads if the test holds, and else falls
 branched-course
@@ -239,21 +239,21 @@ string-course op m p r s =
     (rounded-course m p _ (record { place = kept .place; many = kept .many }) (p .repeat) op)
 
 -- every operation has one of the ways, unless it is indirect, and keeps the number of registers
-course : (op : Operation) (m : Machine) (p : Plan) (r s : ℕ) → Course m p (indirect op) (effectBy op m p r s)
+course : (op : Operation) (m : Machine) (p : Plan) (a r s : ℕ) → Course m p (indirect op) (effectBy op m p a r s)
 unfolding indirect effectBy flaggingEffect
-course (Operation.Arithmetic op) m p r s = arithmetic-course op m p r
-course (Operation.Move op) m p r s = move-course op m p r
-course (Operation.Flagging op) m p r s = falling (of-becomes (flags-set (on m p) _))
-course (Operation.Stack op) m p r s = stack-course op m p r
-course (Operation.Branch op) m p r s = branch-course op m p r
-course (Operation.Strings op) m p r s = string-course op m p r s
+course (Operation.Arithmetic op) m p a r s = arithmetic-course op m p a r
+course (Operation.Move op) m p a r s = move-course op m p a r
+course (Operation.Flagging op) m p a r s = falling (of-becomes (flags-set (on m p) _))
+course (Operation.Stack op) m p a r s = stack-course op m p a r
+course (Operation.Branch op) m p a r s = branch-course op m p r
+course (Operation.Strings op) m p a r s = string-course op m p r s
 
 -- EIP stays, falls to the next instruction or leads to the target, but for each return and each jump or call through a register or memory
-pub way : (op : Operation) (m : Machine) (p : Plan) (r s : ℕ) → indirect op ≡ false → Way m p (effectBy op m p r s)
-way op m p r s = (course op m p r s) .way
+pub way : (op : Operation) (m : Machine) (p : Plan) (a r s : ℕ) → indirect op ≡ false → Way m p (effectBy op m p a r s)
+way op m p a r s = (course op m p a r s) .way
 
 -- every operation keeps the number of registers
 pub regs-kept
-    : (op : Operation) (m : Machine) (p : Plan) (r s : ℕ)
-    → length ((effectBy op m p r s) .machine .regs) ≡ length (m .regs)
-regs-kept op m p r s = (course op m p r s) .many
+    : (op : Operation) (m : Machine) (p : Plan) (a r s : ℕ)
+    → length ((effectBy op m p a r s) .machine .regs) ≡ length (m .regs)
+regs-kept op m p a r s = (course op m p a r s) .many

@@ -12,20 +12,20 @@ use Rattle.effect.specs.Stacks.{stackReads, stackEffect}
 use Rattle.effect.specs.Branches.{branchReads, branchEffect}
 use Rattle.effect.specs.Strings.{stringReads, stringEffect}
 
--- what it reads, in this order
-unfoldable pub readsBy : Operation → Machine → Plan → Reads
-readsBy (Operation.Arithmetic op) m p = arithmeticReads p
-readsBy (Operation.Move op) m p = moveReads op p
-readsBy (Operation.Flagging op) m p = Nothing
-readsBy (Operation.Stack op) m p = stackReads op m p
-readsBy (Operation.Branch op) m p = branchReads op p
-readsBy (Operation.Strings op) m p = stringReads op m p
+-- what it reads, in this order, where a is the effective address
+unfoldable pub readsBy : Operation → Machine → Plan → ℕ → Reads
+readsBy (Operation.Arithmetic op) m p a = arithmeticReads p a
+readsBy (Operation.Move op) m p a = moveReads op p a
+readsBy (Operation.Flagging op) m p a = Nothing
+readsBy (Operation.Stack op) m p a = stackReads op m p a
+readsBy (Operation.Branch op) m p a = branchReads op p a
+readsBy (Operation.Strings op) m p a = stringReads op m p
 
--- what it does, where r and s are what was read
-unfoldable pub effectBy : Operation → Machine → Plan → ℕ → ℕ → Effect
-effectBy (Operation.Arithmetic op) m p r s = arithmeticEffect op m p r
-effectBy (Operation.Move op) m p r s = moveEffect op m p r
-effectBy (Operation.Flagging op) m p r s = flaggingEffect op m p
-effectBy (Operation.Stack op) m p r s = stackEffect op m p r
-effectBy (Operation.Branch op) m p r s = branchEffect op m p r
-effectBy (Operation.Strings op) m p r s = stringEffect op m p r s
+-- what it does, where a is the effective address, and r and s are what was read
+unfoldable pub effectBy : Operation → Machine → Plan → ℕ → ℕ → ℕ → Effect
+effectBy (Operation.Arithmetic op) m p a r s = arithmeticEffect op m p a r
+effectBy (Operation.Move op) m p a r s = moveEffect op m p a r
+effectBy (Operation.Flagging op) m p a r s = flaggingEffect op m p
+effectBy (Operation.Stack op) m p a r s = stackEffect op m p a r
+effectBy (Operation.Branch op) m p a r s = branchEffect op m p r
+effectBy (Operation.Strings op) m p a r s = stringEffect op m p r s

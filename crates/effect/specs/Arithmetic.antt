@@ -1,4 +1,4 @@
--- Operations that compute: what each does, beside 003's page for it. m is the machine before, r what was read. Assumes nothing.
+-- Operations that compute: what each does, beside 003's page for it. m is the machine before, a the effective address, r what was read. Assumes nothing.
 use mathlib.Core.Bool.{Bool, true, false, cond}
 use Prim.Native.Nat.{ℕ}
 use Rattle.width.specs.declared.Size.{Size}
@@ -26,8 +26,8 @@ use Rattle.effect.specs.declared.outcome.Reads.{Reads}
 use Rattle.effect.specs.Words.{becomes, faults, onward, value, assign, readOr, readOf}
 
 -- the memory operand is read, be it source or destination
-unfoldable pub arithmeticReads : Plan → Reads
-arithmeticReads p = readOr (p .source) (p .size) (readOf (p .destination) (p .size))
+unfoldable pub arithmeticReads : Plan → ℕ → Reads
+arithmeticReads p a = readOr (p .source) a (p .size) (readOf (p .destination) a (p .size))
 
 -- whether a binary operation assigns its value: CMP does not
 unfoldable pub assigns : Binary → Bool
@@ -61,9 +61,9 @@ unfoldable pub multipliedLow : Size → ℕ → ℕ → Flags → Computed
 multipliedLow w a b f = record { flags = productFlags (signedSpills w a b) f; value = (halves w (signedProduct w a b)) .low; assigned = true }
 
 -- DEST ← the value that was computed, if it is to be assigned, and the flags
-unfoldable pub settled : Computed → Machine → Plan → Effect
-settled c m p =
-    cond (c .assigned) (assign (p .destination) (withFlags (onward m p) (c .flags)) (p .size) (c .value))
+unfoldable pub settled : Computed → Machine → Plan → ℕ → Effect
+settled c m p a =
+    cond (c .assigned) (assign (p .destination) a (withFlags (onward m p) (c .flags)) (p .size) (c .value))
     (becomes (withFlags (onward m p) (c .flags)))
 
 -- the upper half's register: AH beside AL, DX beside AX, EDX beside EAX
@@ -111,18 +111,18 @@ dividedSigned m p d =
     quotient (signedDivision (p .size) (part m (p .size) (upper (p .size))) (part m (p .size) 0) d) m p
 
 -- what the operation does
-unfoldable pub arithmeticEffect : Arithmetic → Machine → Plan → ℕ → Effect
-arithmeticEffect (Arithmetic.Binary op) m p r =
-    settled (binary op (p .size) (value (p .destination) m r (p .size)) (value (p .source) m r (p .size)) (m .flags)) m p
-arithmeticEffect Arithmetic.Test m p r =
-    settled (test (p .size) (value (p .destination) m r (p .size)) (value (p .source) m r (p .size)) (m .flags)) m p
-arithmeticEffect (Arithmetic.Single op) m p r =
-    settled (single op (p .size) (value (p .destination) m r (p .size)) (m .flags)) m p
-arithmeticEffect (Arithmetic.Shift op) m p r =
-    settled (shift op (p .size) (value (p .destination) m r (p .size)) (value (p .source) m r Byte) (m .flags)) m p
-arithmeticEffect Arithmetic.Mul m p r = multiplied m p (value (p .destination) m r (p .size))
-arithmeticEffect Arithmetic.Imul m p r = multipliedSigned m p (value (p .destination) m r (p .size))
-arithmeticEffect Arithmetic.ImulLow m p r =
-    settled (multipliedLow (p .size) (value (p .source) m r (p .size)) (value (p .other) m r (p .size)) (m .flags)) m p
-arithmeticEffect Arithmetic.Div m p r = divided m p (value (p .destination) m r (p .size))
-arithmeticEffect Arithmetic.Idiv m p r = dividedSigned m p (value (p .destination) m r (p .size))
+unfoldable pub arithmeticEffect : Arithmetic → Machine → Plan → ℕ → ℕ → Effect
+arithmeticEffect (Arithmetic.Binary op) m p a r =
+    settled (binary op (p .size) (value (p .destination) m r (p .size)) (value (p .source) m r (p .size)) (m .flags)) m p a
+arithmeticEffect Arithmetic.Test m p a r =
+    settled (test (p .size) (value (p .destination) m r (p .size)) (value (p .source) m r (p .size)) (m .flags)) m p a
+arithmeticEffect (Arithmetic.Single op) m p a r =
+    settled (single op (p .size) (value (p .destination) m r (p .size)) (m .flags)) m p a
+arithmeticEffect (Arithmetic.Shift op) m p a r =
+    settled (shift op (p .size) (value (p .destination) m r (p .size)) (value (p .source) m r Byte) (m .flags)) m p a
+arithmeticEffect Arithmetic.Mul m p a r = multiplied m p (value (p .destination) m r (p .size))
+arithmeticEffect Arithmetic.Imul m p a r = multipliedSigned m p (value (p .destination) m r (p .size))
+arithmeticEffect Arithmetic.ImulLow m p a r =
+    settled (multipliedLow (p .size) (value (p .source) m r (p .size)) (value (p .other) m r (p .size)) (m .flags)) m p a
+arithmeticEffect Arithmetic.Div m p a r = divided m p (value (p .destination) m r (p .size))
+arithmeticEffect Arithmetic.Idiv m p a r = dividedSigned m p (value (p .destination) m r (p .size))

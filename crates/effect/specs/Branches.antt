@@ -1,4 +1,4 @@
--- Jumps and loops: what each does, beside 003's page for it. m is the machine before, r what was read. Assumes nothing.
+-- Jumps and loops: what each does, beside 003's page for it. m is the machine before, a the effective address, r what was read. Assumes nothing.
 use mathlib.Core.Bool.{Bool, true, cond, not, _&&_}
 use Prim.Native.Nat.{ℕ}
 use lib.Dec.{eqb}
@@ -32,14 +32,14 @@ unfoldable pub looped : Bool → Machine → Plan → Effect
 looped holds m p = becomes (branched (not (eqb (counted m) 0) && holds) (withRegister m ecx (counted m)) p)
 
 -- JMP through memory reads its target
-unfoldable pub branchReads : Branch → Plan → Reads
-branchReads Branch.Jump p = Nothing
-branchReads Branch.JumpTo p = readOf (p .source) (p .size)
-branchReads (Branch.JumpIf n) p = Nothing
-branchReads Branch.Loopne p = Nothing
-branchReads Branch.Loope p = Nothing
-branchReads Branch.Loop p = Nothing
-branchReads Branch.Jecxz p = Nothing
+unfoldable pub branchReads : Branch → Plan → ℕ → Reads
+branchReads Branch.Jump p a = Nothing
+branchReads Branch.JumpTo p a = readOf (p .source) a (p .size)
+branchReads (Branch.JumpIf n) p a = Nothing
+branchReads Branch.Loopne p a = Nothing
+branchReads Branch.Loope p a = Nothing
+branchReads Branch.Loop p a = Nothing
+branchReads Branch.Jecxz p a = Nothing
 
 -- what the operation does
 unfoldable pub branchEffect : Branch → Machine → Plan → ℕ → Effect

@@ -1,4 +1,4 @@
--- Operations that move a value or set flags: what each does, beside 003's page for it. m is the machine before, r what was read. Assumes nothing.
+-- Operations that move a value or set flags: what each does, beside 003's page for it. m is the machine before, a the effective address, r what was read. Assumes nothing.
 use mathlib.Core.Bool.{Bool, true, false, not}
 use Prim.Native.Nat.{ℕ}
 use Rattle.width.specs.declared.Size.{Size}
@@ -15,25 +15,25 @@ use Rattle.plan.specs.declared.Plan.{Plan}
 use Rattle.effect.specs.declared.outcome.Effect.{Effect}
 use Rattle.effect.specs.declared.outcome.Reads.{Reads}
 use Rattle.effect.specs.declared.outcome.Reads.the-variants.{Nothing}
-use Rattle.effect.specs.Words.{becomes, onward, value, assign, assigned, addressOf, readOf}
+use Rattle.effect.specs.Words.{becomes, onward, value, assign, assigned, readOf}
 
 -- the source is read, by MOVZX and MOVSX at its own size; of XCHG the destination
-unfoldable pub moveReads : Move → Plan → Reads
-moveReads Move.Mov p = readOf (p .source) (p .size)
-moveReads (Move.MovZero from) p = readOf (p .source) from
-moveReads (Move.MovSign from) p = readOf (p .source) from
-moveReads Move.Lea p = Nothing
-moveReads Move.Xchg p = readOf (p .destination) (p .size)
-moveReads Move.Convert p = Nothing
-moveReads Move.Spread p = Nothing
-moveReads Move.Bswap p = Nothing
-moveReads (Move.Set n) p = Nothing
-moveReads Move.Lahf p = Nothing
-moveReads Move.Sahf p = Nothing
+unfoldable pub moveReads : Move → Plan → ℕ → Reads
+moveReads Move.Mov p a = readOf (p .source) a (p .size)
+moveReads (Move.MovZero from) p a = readOf (p .source) a from
+moveReads (Move.MovSign from) p a = readOf (p .source) a from
+moveReads Move.Lea p a = Nothing
+moveReads Move.Xchg p a = readOf (p .destination) a (p .size)
+moveReads Move.Convert p a = Nothing
+moveReads Move.Spread p a = Nothing
+moveReads Move.Bswap p a = Nothing
+moveReads (Move.Set n) p a = Nothing
+moveReads Move.Lahf p a = Nothing
+moveReads Move.Sahf p a = Nothing
 
 -- 003 "XCHG": DEST and SRC change places
-unfoldable pub exchanged : Machine → Plan → ℕ → ℕ → Effect
-exchanged m p a b = assign (p .destination) (assigned (p .source) (onward m p) (p .size) a) (p .size) b
+unfoldable pub exchanged : Machine → Plan → ℕ → ℕ → ℕ → Effect
+exchanged m p a x y = assign (p .destination) a (assigned (p .source) (onward m p) (p .size) x) (p .size) y
 
 -- half a size
 unfoldable pub smaller : Size → Size
@@ -42,32 +42,32 @@ smaller Word = Byte
 smaller Dword = Word
 
 -- what the operation does
-unfoldable pub moveEffect : Move → Machine → Plan → ℕ → Effect
+unfoldable pub moveEffect : Move → Machine → Plan → ℕ → ℕ → Effect
 -- 003 "MOV": DEST ← SRC
-moveEffect Move.Mov m p r = assign (p .destination) (onward m p) (p .size) (value (p .source) m r (p .size))
+moveEffect Move.Mov m p a r = assign (p .destination) a (onward m p) (p .size) (value (p .source) m r (p .size))
 -- 003 "MOVZX": DEST ← SRC, extended by zero
-moveEffect (Move.MovZero from) m p r = assign (p .destination) (onward m p) (p .size) (value (p .source) m r from)
+moveEffect (Move.MovZero from) m p a r = assign (p .destination) a (onward m p) (p .size) (value (p .source) m r from)
 -- 003 "MOVSX": DEST ← SRC, extended by sign
-moveEffect (Move.MovSign from) m p r =
-    assign (p .destination) (onward m p) (p .size) (signExtended from (p .size) (value (p .source) m r from))
--- 003 "LEA": DEST ← the address of SRC
-moveEffect Move.Lea m p r = assign (p .destination) (onward m p) (p .size) (addressOf (p .source))
-moveEffect Move.Xchg m p r =
-    exchanged m p (value (p .destination) m r (p .size)) (value (p .source) m r (p .size))
+moveEffect (Move.MovSign from) m p a r =
+    assign (p .destination) a (onward m p) (p .size) (signExtended from (p .size) (value (p .source) m r from))
+-- 003 "LEA": DEST ← the effective address of SRC
+moveEffect Move.Lea m p a r = assign (p .destination) a (onward m p) (p .size) a
+moveEffect Move.Xchg m p a r =
+    exchanged m p a (value (p .destination) m r (p .size)) (value (p .source) m r (p .size))
 -- 003 "CBW/CWDE": AX ← AL, or EAX ← AX, extended by sign
-moveEffect Move.Convert m p r =
+moveEffect Move.Convert m p a r =
     becomes (withPart (onward m p) (p .size) 0 (signExtended (smaller (p .size)) (p .size) (part m (smaller (p .size)) 0)))
 -- 003 "CWD/CDQ": each bit of DX, or EDX, ← the sign of AX, or EAX
-moveEffect Move.Spread m p r = becomes (withPart (onward m p) (p .size) 2 (signFilled (p .size) (part m (p .size) 0)))
+moveEffect Move.Spread m p a r = becomes (withPart (onward m p) (p .size) 2 (signFilled (p .size) (part m (p .size) 0)))
 -- 003 "BSWAP": the register's bytes in the opposite order
-moveEffect Move.Bswap m p r =
-    assign (p .destination) (onward m p) (p .size) (reversed (value (p .destination) m r (p .size)))
+moveEffect Move.Bswap m p a r =
+    assign (p .destination) a (onward m p) (p .size) (reversed (value (p .destination) m r (p .size)))
 -- 003 "SETcc": DEST ← 1 if the condition is met, else 0
-moveEffect (Move.Set n) m p r = assign (p .destination) (onward m p) (p .size) (bit (meets n (m .flags)))
+moveEffect (Move.Set n) m p a r = assign (p .destination) a (onward m p) (p .size) (bit (meets n (m .flags)))
 -- 003 "LAHF": AH ← the flags
-moveEffect Move.Lahf m p r = becomes (withPart (onward m p) Byte 4 (ahOf (m .flags)))
+moveEffect Move.Lahf m p a r = becomes (withPart (onward m p) Byte 4 (ahOf (m .flags)))
 -- 003 "SAHF": the flags ← AH
-moveEffect Move.Sahf m p r = becomes (withFlags (onward m p) (fromAh (part m Byte 4) (m .flags)))
+moveEffect Move.Sahf m p a r = becomes (withFlags (onward m p) (fromAh (part m Byte 4) (m .flags)))
 
 -- the flags with another CF
 unfoldable pub withCf : Flags → Bool → Flags

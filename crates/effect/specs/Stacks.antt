@@ -1,4 +1,4 @@
--- Operations on the stack: what each does, beside 003's page for it. m is the machine before, r what was read. Assumes nothing.
+-- Operations on the stack: what each does, beside 003's page for it. m is the machine before, a the effective address, r what was read. Assumes nothing.
 use Prim.Native.Nat.{ℕ, _+_}
 use lib.IntN.{pos, subℕ}
 use Rattle.width.specs.declared.Size.the-variants.{Dword}
@@ -32,24 +32,24 @@ unfoldable pub pushed : Machine → ℕ → Effect
 pushed m v = writes (withRegister m esp (below m)) Dword (below m) v
 
 -- what the operation reads: a pop its doubleword, LEAVE the one at EBP
-unfoldable pub stackReads : Stack → Machine → Plan → Reads
-stackReads Stack.Push m p = readOf (p .source) (p .size)
-stackReads Stack.Pop m p = One Dword (register m esp)
-stackReads Stack.Leave m p = One Dword (register m ebp)
-stackReads Stack.Call m p = Nothing
-stackReads Stack.CallTo m p = readOf (p .source) (p .size)
-stackReads Stack.Return m p = One Dword (register m esp)
+unfoldable pub stackReads : Stack → Machine → Plan → ℕ → Reads
+stackReads Stack.Push m p a = readOf (p .source) a (p .size)
+stackReads Stack.Pop m p a = One Dword (register m esp)
+stackReads Stack.Leave m p a = One Dword (register m ebp)
+stackReads Stack.Call m p a = Nothing
+stackReads Stack.CallTo m p a = readOf (p .source) a (p .size)
+stackReads Stack.Return m p a = One Dword (register m esp)
 
 -- what the operation does
-unfoldable pub stackEffect : Stack → Machine → Plan → ℕ → Effect
-stackEffect Stack.Push m p r = pushed (onward m p) (value (p .source) m r (p .size))
+unfoldable pub stackEffect : Stack → Machine → Plan → ℕ → ℕ → Effect
+stackEffect Stack.Push m p a r = pushed (onward m p) (value (p .source) m r (p .size))
 -- 003 "POP": DEST ← the doubleword at ESP; ESP ← ESP + 4 before, so that POP ESP ends with the popped word
-stackEffect Stack.Pop m p r = assign (p .destination) (withRegister (onward m p) esp (above m esp 4)) (p .size) r
+stackEffect Stack.Pop m p a r = assign (p .destination) a (withRegister (onward m p) esp (above m esp 4)) (p .size) r
 -- 003 "LEAVE": ESP ← EBP; EBP ← Pop()
-stackEffect Stack.Leave m p r = becomes (withRegister (withRegister (onward m p) esp (above m ebp 4)) ebp r)
+stackEffect Stack.Leave m p a r = becomes (withRegister (withRegister (onward m p) esp (above m ebp 4)) ebp r)
 -- 003 "CALL": Push(EIP); EIP ← the target
-stackEffect Stack.Call m p r = pushed (withEip m (p .target)) (p .next)
-stackEffect Stack.CallTo m p r = pushed (withEip m (value (p .source) m r (p .size))) (p .next)
+stackEffect Stack.Call m p a r = pushed (withEip m (p .target)) (p .next)
+stackEffect Stack.CallTo m p a r = pushed (withEip m (value (p .source) m r (p .size))) (p .next)
 -- 003 "RET": EIP ← Pop(); ESP ← ESP + SRC
-stackEffect Stack.Return m p r =
+stackEffect Stack.Return m p a r =
     becomes (withRegister (withEip m r) esp (above m esp (4 + value (p .source) m r (p .size))))

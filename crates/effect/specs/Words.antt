@@ -31,33 +31,27 @@ onward m p = withEip m (p .next)
 -- an operand's value at a size, where r is what was read of memory
 unfoldable pub value : Operand → Machine → ℕ → Size → ℕ
 value (Register i) m r w = part m w i
-value (Memory a) m r w = r
+value Memory m r w = r
 value (Number n) m r w = n
 
--- v assigned to an operand
-unfoldable pub assign : Operand → Machine → Size → ℕ → Effect
-assign (Register i) m w v = becomes (withPart m w i v)
-assign (Memory a) m w v = writes m w a v
-assign (Number n) m w v = becomes m
+-- v assigned to an operand, where a is the effective address
+unfoldable pub assign : Operand → ℕ → Machine → Size → ℕ → Effect
+assign (Register i) a m w v = becomes (withPart m w i v)
+assign Memory a m w v = writes m w a v
+assign (Number n) a m w v = becomes m
 
 -- v assigned to an operand that is no memory
 unfoldable pub assigned : Operand → Machine → Size → ℕ → Machine
 assigned (Register i) m w v = withPart m w i v
-assigned (Memory a) m w v = m
+assigned Memory m w v = m
 assigned (Number n) m w v = m
 
--- the address of an operand in memory
-unfoldable pub addressOf : Operand → ℕ
-addressOf (Register i) = 0
-addressOf (Memory a) = a
-addressOf (Number n) = 0
-
--- a read of an operand, where it lies in memory; else what is read besides
-unfoldable pub readOr : Operand → Size → Reads → Reads
-readOr (Register i) w besides = besides
-readOr (Memory a) w besides = One w a
-readOr (Number n) w besides = besides
+-- a read of an operand, where it lies in memory, at the effective address a; else what is read besides
+unfoldable pub readOr : Operand → ℕ → Size → Reads → Reads
+readOr (Register i) a w besides = besides
+readOr Memory a w besides = One w a
+readOr (Number n) a w besides = besides
 
 -- a read of an operand, where it lies in memory
-unfoldable pub readOf : Operand → Size → Reads
-readOf o w = readOr o w Nothing
+unfoldable pub readOf : Operand → ℕ → Size → Reads
+readOf o a w = readOr o a w Nothing

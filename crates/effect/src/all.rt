@@ -18,29 +18,29 @@ use sense::Operation;
 ghost use mathlib.Core.Path.{_≡_};
 ghost use Rattle.effect.specs.All.{readsBy, effectBy};
 
-// What it reads, in this order.
-pub fn reads_by(operation: Operation, m: Machine, p: Plan) -> Reads
-    ensures { λ r. ⌜ r ≡ readsBy operation m p ⌝ }
+// What it reads, in this order, where a is the effective address.
+pub fn reads_by(operation: Operation, m: Machine, p: Plan, a: u32) -> Reads
+    ensures { λ r. ⌜ r ≡ readsBy operation m p a ⌝ }
 {
     match operation {
-        Operation::Arithmetic(_) => arithmetic_reads(p),
-        Operation::Move(op) => move_reads(op, p),
+        Operation::Arithmetic(_) => arithmetic_reads(p, a),
+        Operation::Move(op) => move_reads(op, p, a),
         Operation::Flagging(_) => Reads::Nothing,
-        Operation::Stack(op) => stack_reads(op, m, p),
-        Operation::Branch(op) => branch_reads(op, p),
+        Operation::Stack(op) => stack_reads(op, m, p, a),
+        Operation::Branch(op) => branch_reads(op, p, a),
         Operation::Strings(op) => string_reads(op, m, p),
     }
 }
 
-// What it does, where r and s are what was read.
-pub fn effect_by(operation: Operation, m: Machine, p: Plan, r: u32, s: u32) -> Effect
-    ensures { λ e. ⌜ e ≡ effectBy operation m p r s ⌝ }
+// What it does, where a is the effective address, and r and s are what was read.
+pub fn effect_by(operation: Operation, m: Machine, p: Plan, a: u32, r: u32, s: u32) -> Effect
+    ensures { λ e. ⌜ e ≡ effectBy operation m p a r s ⌝ }
 {
     match operation {
-        Operation::Arithmetic(op) => arithmetic_effect(op, m, p, r),
-        Operation::Move(op) => move_effect(op, m, p, r),
+        Operation::Arithmetic(op) => arithmetic_effect(op, m, p, a, r),
+        Operation::Move(op) => move_effect(op, m, p, a, r),
         Operation::Flagging(op) => flagging_effect(op, m, p),
-        Operation::Stack(op) => stack_effect(op, m, p, r),
+        Operation::Stack(op) => stack_effect(op, m, p, a, r),
         Operation::Branch(op) => branch_effect(op, m, p, r),
         Operation::Strings(op) => string_effect(op, m, p, r, s),
     }

@@ -21,13 +21,13 @@ ghost use mathlib.Core.Path.{_≡_};
 ghost use Rattle.effect.specs.Arithmetic as Op;
 
 // The memory operand is read, be it source or destination.
-pub fn arithmetic_reads(p: Plan) -> Reads
-    ensures { λ r. ⌜ r ≡ Op.arithmeticReads p ⌝ }
+pub fn arithmetic_reads(p: Plan, a: u32) -> Reads
+    ensures { λ r. ⌜ r ≡ Op.arithmeticReads p a ⌝ }
 {
     let w = p.size;
     let d = p.destination;
     let s = p.source;
-    read_or(s, w, read_of(d, w))
+    read_or(s, a, w, read_of(d, a, w))
 }
 
 // What an operation computes: the flags, and a value that is assigned to DEST or not.
@@ -110,15 +110,15 @@ fn multiplied_low(w: Size, a: u32, b: u32, f: Flags) -> Computed
 }
 
 // DEST ← the value that was computed, if it is to be assigned, and the flags.
-fn settled(c: Computed, m: Machine, p: Plan) -> Effect
-    ensures { λ r. ⌜ r ≡ Op.settled c m p ⌝ }
+fn settled(c: Computed, m: Machine, p: Plan, a: u32) -> Effect
+    ensures { λ r. ⌜ r ≡ Op.settled c m p a ⌝ }
 {
     let g = c.flags;
     let after = onward(m, p).with_flags(g);
     if c.assigned {
         let d = p.destination;
         let w = p.size;
-        return assign(d, after, w, c.value);
+        return assign(d, a, after, w, c.value);
     }
     becomes(after)
 }
@@ -205,28 +205,28 @@ fn divided_signed(m: Machine, p: Plan, d: u32) -> Effect
 }
 
 // What the operation does; r is what was read.
-pub fn arithmetic_effect(op: Arithmetic, m: Machine, p: Plan, r: u32) -> Effect
-    ensures { λ e. ⌜ e ≡ Op.arithmeticEffect op m p r ⌝ }
+pub fn arithmetic_effect(op: Arithmetic, m: Machine, p: Plan, a: u32, r: u32) -> Effect
+    ensures { λ e. ⌜ e ≡ Op.arithmeticEffect op m p a r ⌝ }
 {
     let w = p.size;
     let d = p.destination;
     let s = p.source;
     let f = m.flags;
-    let a = value(d, m, r, w);
-    let b = value(s, m, r, w);
+    let x = value(d, m, r, w);
+    let y = value(s, m, r, w);
     let c = match op {
-        Arithmetic::Binary(o) => binary(o, w, a, b, f),
-        Arithmetic::Test => test(w, a, b, f),
-        Arithmetic::Single(o) => single(o, w, a, f),
-        Arithmetic::Shift(o) => shift(o, w, a, value(s, m, r, Size::Byte), f),
-        Arithmetic::Mul => return multiplied(m, p, a),
-        Arithmetic::Imul => return multiplied_signed(m, p, a),
+        Arithmetic::Binary(o) => binary(o, w, x, y, f),
+        Arithmetic::Test => test(w, x, y, f),
+        Arithmetic::Single(o) => single(o, w, x, f),
+        Arithmetic::Shift(o) => shift(o, w, x, value(s, m, r, Size::Byte), f),
+        Arithmetic::Mul => return multiplied(m, p, x),
+        Arithmetic::Imul => return multiplied_signed(m, p, x),
         Arithmetic::ImulLow => {
             let t = p.other;
-            multiplied_low(w, b, value(t, m, r, w), f)
+            multiplied_low(w, y, value(t, m, r, w), f)
         }
-        Arithmetic::Div => return divided(m, p, a),
-        Arithmetic::Idiv => return divided_signed(m, p, a),
+        Arithmetic::Div => return divided(m, p, x),
+        Arithmetic::Idiv => return divided_signed(m, p, x),
     };
-    settled(c, m, p)
+    settled(c, m, p, a)
 }

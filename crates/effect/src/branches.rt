@@ -48,15 +48,15 @@ fn looped(holds: bool, m: Machine, p: Plan) -> Effect
 }
 
 // JMP through memory reads its target.
-pub fn branch_reads(op: Branch, p: Plan) -> Reads
-    ensures { λ r. ⌜ r ≡ B.branchReads op p ⌝ }
+pub fn branch_reads(op: Branch, p: Plan, a: u32) -> Reads
+    ensures { λ r. ⌜ r ≡ B.branchReads op p a ⌝ }
 {
     match op {
         Branch::Jump => Reads::Nothing,
         Branch::JumpTo => {
             let o = p.source;
             let w = p.size;
-            words::read_of(o, w)
+            words::read_of(o, a, w)
         }
         Branch::JumpIf(_) => Reads::Nothing,
         Branch::Loopne => Reads::Nothing,

@@ -17,19 +17,19 @@ ghost use Rattle.effect.specs.Words as W;
 ghost use Rattle.effect.specs.Moves as M;
 
 // The source is read, by MOVZX and MOVSX at its own size; of XCHG the destination.
-pub fn move_reads(op: Move, p: Plan) -> Reads
-    ensures { λ r. ⌜ r ≡ M.moveReads op p ⌝ }
+pub fn move_reads(op: Move, p: Plan, a: u32) -> Reads
+    ensures { λ r. ⌜ r ≡ M.moveReads op p a ⌝ }
 {
     let w = p.size;
     let s = p.source;
     match op {
-        Move::Mov => words::read_of(s, w),
-        Move::MovZero(from) => words::read_of(s, from),
-        Move::MovSign(from) => words::read_of(s, from),
+        Move::Mov => words::read_of(s, a, w),
+        Move::MovZero(from) => words::read_of(s, a, from),
+        Move::MovSign(from) => words::read_of(s, a, from),
         Move::Lea => Reads::Nothing,
         Move::Xchg => {
             let d = p.destination;
-            words::read_of(d, w)
+            words::read_of(d, a, w)
         }
         Move::Convert => Reads::Nothing,
         Move::Spread => Reads::Nothing,
@@ -41,26 +41,26 @@ pub fn move_reads(op: Move, p: Plan) -> Reads
 }
 
 // DEST ← v.
-fn placed(m: Machine, p: Plan, v: u32) -> Effect
-    ensures { λ e. ⌜ e ≡ W.assign (p .destination) (W.onward m p) (p .size) v ⌝ }
+fn placed(m: Machine, p: Plan, a: u32, v: u32) -> Effect
+    ensures { λ e. ⌜ e ≡ W.assign (p .destination) a (W.onward m p) (p .size) v ⌝ }
 {
     let d = p.destination;
     let w = p.size;
-    words::assign(d, words::onward(m, p), w, v)
+    words::assign(d, a, words::onward(m, p), w, v)
 }
 
 // MOV and MOVZX: DEST ← SRC, a number of the size `from`.
-fn moved(m: Machine, p: Plan, r: u32, from: Size) -> Effect
-    ensures { λ e. ⌜ e ≡ W.assign (p .destination) (W.onward m p) (p .size) (W.value (p .source) m r from) ⌝ }
+fn moved(m: Machine, p: Plan, a: u32, r: u32, from: Size) -> Effect
+    ensures { λ e. ⌜ e ≡ W.assign (p .destination) a (W.onward m p) (p .size) (W.value (p .source) m r from) ⌝ }
 {
     let s = p.source;
-    placed(m, p, words::value(s, m, r, from))
+    placed(m, p, a, words::value(s, m, r, from))
 }
 
 // MOVSX: DEST ← SRC, extended by sign.
-fn extended(m: Machine, p: Plan, r: u32, from: Size) -> Effect
+fn extended(m: Machine, p: Plan, a: u32, r: u32, from: Size) -> Effect
     ensures { λ e. ⌜
-        e ≡ W.assign (p .destination) (W.onward m p) (p .size)
+        e ≡ W.assign (p .destination) a (W.onward m p) (p .size)
         (signExtended from (p .size) (W.value (p .source) m r from))
         ⌝ }
 {
@@ -69,36 +69,36 @@ fn extended(m: Machine, p: Plan, r: u32, from: Size) -> Effect
     placed(
         m,
         p,
+        a,
         width::sign_extended(from, w, words::value(s, m, r, from)),
     )
 }
 
-// LEA: DEST ← the address of SRC.
-fn addressed(m: Machine, p: Plan) -> Effect
-    ensures { λ e. ⌜ e ≡ W.assign (p .destination) (W.onward m p) (p .size) (W.addressOf (p .source)) ⌝ }
+// LEA: DEST ← the effective address of SRC.
+fn addressed(m: Machine, p: Plan, a: u32) -> Effect
+    ensures { λ e. ⌜ e ≡ W.assign (p .destination) a (W.onward m p) (p .size) a ⌝ }
 {
-    let s = p.source;
-    placed(m, p, words::address_of(s))
+    placed(m, p, a, a)
 }
 
-// DEST ← b and SRC ← a.
-fn exchanged(m: Machine, p: Plan, a: u32, b: u32) -> Effect
-    ensures { λ e. ⌜ e ≡ M.exchanged m p a b ⌝ }
+// DEST ← y and SRC ← x.
+fn exchanged(m: Machine, p: Plan, a: u32, x: u32, y: u32) -> Effect
+    ensures { λ e. ⌜ e ≡ M.exchanged m p a x y ⌝ }
 {
     let d = p.destination;
     let s = p.source;
     let w = p.size;
-    words::assign(d, words::assigned(s, words::onward(m, p), w, a), w, b)
+    words::assign(d, a, words::assigned(s, words::onward(m, p), w, x), w, y)
 }
 
 // XCHG: DEST and SRC change places.
-fn swapped(m: Machine, p: Plan, r: u32) -> Effect
-    ensures { λ e. ⌜ e ≡ M.exchanged m p (W.value (p .destination) m r (p .size)) (W.value (p .source) m r (p .size)) ⌝ }
+fn swapped(m: Machine, p: Plan, a: u32, r: u32) -> Effect
+    ensures { λ e. ⌜ e ≡ M.exchanged m p a (W.value (p .destination) m r (p .size)) (W.value (p .source) m r (p .size)) ⌝ }
 {
     let d = p.destination;
     let s = p.source;
     let w = p.size;
-    exchanged(m, p, words::value(d, m, r, w), words::value(s, m, r, w))
+    exchanged(m, p, a, words::value(d, m, r, w), words::value(s, m, r, w))
 }
 
 // Half a size.
@@ -135,22 +135,22 @@ fn spread(m: Machine, p: Plan) -> Effect
 }
 
 // BSWAP: the register's bytes in the opposite order.
-fn turned(m: Machine, p: Plan, r: u32) -> Effect
+fn turned(m: Machine, p: Plan, a: u32, r: u32) -> Effect
     ensures { λ e. ⌜
-        e ≡ W.assign (p .destination) (W.onward m p) (p .size) (reversed (W.value (p .destination) m r (p .size)))
+        e ≡ W.assign (p .destination) a (W.onward m p) (p .size) (reversed (W.value (p .destination) m r (p .size)))
         ⌝ }
 {
     let d = p.destination;
     let w = p.size;
-    placed(m, p, width::reversed(words::value(d, m, r, w)))
+    placed(m, p, a, width::reversed(words::value(d, m, r, w)))
 }
 
 // SETcc: DEST ← 1 if the condition is met, else 0.
-fn tested(m: Machine, p: Plan, n: u32) -> Effect
-    ensures { λ e. ⌜ e ≡ W.assign (p .destination) (W.onward m p) (p .size) (bit (meets n (m .flags))) ⌝ }
+fn tested(m: Machine, p: Plan, a: u32, n: u32) -> Effect
+    ensures { λ e. ⌜ e ≡ W.assign (p .destination) a (W.onward m p) (p .size) (bit (meets n (m .flags))) ⌝ }
 {
     let f = m.flags;
-    placed(m, p, width::bit(flags::meets(n, f)) as u32)
+    placed(m, p, a, width::bit(flags::meets(n, f)) as u32)
 }
 
 // LAHF: AH ← the flags.
@@ -172,22 +172,22 @@ fn ah_stored(m: Machine, p: Plan) -> Effect
 }
 
 // What the operation does.
-pub fn move_effect(op: Move, m: Machine, p: Plan, r: u32) -> Effect
-    ensures { λ e. ⌜ e ≡ M.moveEffect op m p r ⌝ }
+pub fn move_effect(op: Move, m: Machine, p: Plan, a: u32, r: u32) -> Effect
+    ensures { λ e. ⌜ e ≡ M.moveEffect op m p a r ⌝ }
 {
     match op {
         Move::Mov => {
             let w = p.size;
-            moved(m, p, r, w)
+            moved(m, p, a, r, w)
         }
-        Move::MovZero(from) => moved(m, p, r, from),
-        Move::MovSign(from) => extended(m, p, r, from),
-        Move::Lea => addressed(m, p),
-        Move::Xchg => swapped(m, p, r),
+        Move::MovZero(from) => moved(m, p, a, r, from),
+        Move::MovSign(from) => extended(m, p, a, r, from),
+        Move::Lea => addressed(m, p, a),
+        Move::Xchg => swapped(m, p, a, r),
         Move::Convert => converted(m, p),
         Move::Spread => spread(m, p),
-        Move::Bswap => turned(m, p, r),
-        Move::Set(n) => tested(m, p, n),
+        Move::Bswap => turned(m, p, a, r),
+        Move::Set(n) => tested(m, p, a, n),
         Move::Lahf => ah_loaded(m, p),
         Move::Sahf => ah_stored(m, p),
     }

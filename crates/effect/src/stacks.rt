@@ -48,13 +48,13 @@ fn pushed(m: Machine, v: u32) -> Effect
 }
 
 // What the operation reads: a pop its doubleword, LEAVE the one at EBP.
-pub fn stack_reads(op: Stack, m: Machine, p: Plan) -> Reads
-    ensures { λ r. ⌜ r ≡ S.stackReads op m p ⌝ }
+pub fn stack_reads(op: Stack, m: Machine, p: Plan, a: u32) -> Reads
+    ensures { λ r. ⌜ r ≡ S.stackReads op m p a ⌝ }
 {
     let s = p.source;
     let w = p.size;
     match op {
-        Stack::Push => words::read_of(s, w),
+        Stack::Push => words::read_of(s, a, w),
         Stack::Pop => Reads::One {
             size: Size::Dword,
             address: m.register(ESP),
@@ -64,7 +64,7 @@ pub fn stack_reads(op: Stack, m: Machine, p: Plan) -> Reads
             address: m.register(EBP),
         },
         Stack::Call => Reads::Nothing,
-        Stack::CallTo => words::read_of(s, w),
+        Stack::CallTo => words::read_of(s, a, w),
         Stack::Return => Reads::One {
             size: Size::Dword,
             address: m.register(ESP),
@@ -73,15 +73,15 @@ pub fn stack_reads(op: Stack, m: Machine, p: Plan) -> Reads
 }
 
 // POP: ESP ← ESP + 4, then DEST ← the doubleword read.
-fn popped(m: Machine, p: Plan, r: u32) -> Effect
+fn popped(m: Machine, p: Plan, a: u32, r: u32) -> Effect
     ensures { λ e. ⌜
-        e ≡ W.assign (p .destination) (withRegister (W.onward m p) S.esp (S.above m S.esp 4)) (p .size) r
+        e ≡ W.assign (p .destination) a (withRegister (W.onward m p) S.esp (S.above m S.esp 4)) (p .size) r
         ⌝ }
 {
     let d = p.destination;
     let w = p.size;
-    let a = above(m, ESP, 4);
-    words::assign(d, words::onward(m, p).with_register(ESP, a), w, r)
+    let top = above(m, ESP, 4);
+    words::assign(d, a, words::onward(m, p).with_register(ESP, top), w, r)
 }
 
 // LEAVE: ESP ← EBP; EBP ← Pop().
@@ -111,14 +111,14 @@ fn returned(m: Machine, p: Plan, r: u32) -> Effect
 }
 
 // What the operation does.
-pub fn stack_effect(op: Stack, m: Machine, p: Plan, r: u32) -> Effect
-    ensures { λ e. ⌜ e ≡ S.stackEffect op m p r ⌝ }
+pub fn stack_effect(op: Stack, m: Machine, p: Plan, a: u32, r: u32) -> Effect
+    ensures { λ e. ⌜ e ≡ S.stackEffect op m p a r ⌝ }
 {
     let s = p.source;
     let w = p.size;
     match op {
         Stack::Push => pushed(words::onward(m, p), words::value(s, m, r, w)),
-        Stack::Pop => popped(m, p, r),
+        Stack::Pop => popped(m, p, a, r),
         Stack::Leave => left(m, p, r),
         Stack::Call => pushed(m.with_eip(p.target), p.next),
         Stack::CallTo => pushed(m.with_eip(words::value(s, m, r, w)), p.next),

@@ -61,18 +61,18 @@ pub fn value(o: Operand, m: Machine, r: u32, w: Size) -> u32
 {
     match o {
         Operand::Register(i) => m.part(w, i),
-        Operand::Memory(_) => r,
+        Operand::Memory => r,
         Operand::Number(n) => n,
     }
 }
 
-// v assigned to an operand.
-pub fn assign(o: Operand, m: Machine, w: Size, v: u32) -> Effect
-    ensures { λ r. ⌜ r ≡ W.assign o m w v ⌝ }
+// v assigned to an operand, where a is the effective address.
+pub fn assign(o: Operand, a: u32, m: Machine, w: Size, v: u32) -> Effect
+    ensures { λ r. ⌜ r ≡ W.assign o a m w v ⌝ }
 {
     match o {
         Operand::Register(i) => becomes(m.with_part(w, i, v)),
-        Operand::Memory(a) => writes(m, w, a, v),
+        Operand::Memory => writes(m, w, a, v),
         Operand::Number(_) => becomes(m),
     }
 }
@@ -83,29 +83,18 @@ pub fn assigned(o: Operand, m: Machine, w: Size, v: u32) -> Machine
 {
     match o {
         Operand::Register(i) => m.with_part(w, i, v),
-        Operand::Memory(_) => m,
+        Operand::Memory => m,
         Operand::Number(_) => m,
     }
 }
 
-// The address of an operand in memory.
-pub fn address_of(o: Operand) -> u32
-    ensures { λ r. ⌜ r ≡ W.addressOf o ⌝ }
-{
-    match o {
-        Operand::Register(_) => 0,
-        Operand::Memory(a) => a,
-        Operand::Number(_) => 0,
-    }
-}
-
-// A read of an operand, where it lies in memory; else what is read besides.
-pub fn read_or(o: Operand, w: Size, besides: Reads) -> Reads
-    ensures { λ r. ⌜ r ≡ W.readOr o w besides ⌝ }
+// A read of an operand, where it lies in memory, at the effective address a; else what is read besides.
+pub fn read_or(o: Operand, a: u32, w: Size, besides: Reads) -> Reads
+    ensures { λ r. ⌜ r ≡ W.readOr o a w besides ⌝ }
 {
     match o {
         Operand::Register(_) => besides,
-        Operand::Memory(a) => Reads::One {
+        Operand::Memory => Reads::One {
             size: w,
             address: a,
         },
@@ -114,8 +103,8 @@ pub fn read_or(o: Operand, w: Size, besides: Reads) -> Reads
 }
 
 // A read of an operand, where it lies in memory.
-pub fn read_of(o: Operand, w: Size) -> Reads
-    ensures { λ r. ⌜ r ≡ W.readOf o w ⌝ }
+pub fn read_of(o: Operand, a: u32, w: Size) -> Reads
+    ensures { λ r. ⌜ r ≡ W.readOf o a w ⌝ }
 {
-    read_or(o, w, Reads::Nothing)
+    read_or(o, a, w, Reads::Nothing)
 }

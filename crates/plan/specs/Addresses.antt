@@ -7,8 +7,8 @@ use Rattle.width.specs.declared.Size.the-variants.{Dword}
 use Rattle.width.specs.Numbers.{rest}
 use Rattle.machine.specs.declared.registers.Machine.{Machine}
 use Rattle.machine.specs.Registers.{register}
-use Rattle.grammar.specs.declared.instruction.Decoded.{Decoded}
 use Rattle.grammar.specs.Grammar.{modOf, rmOf, baseOf}
+use Rattle.plan.specs.declared.Address.{Address}
 
 -- a SIB byte's index: the register times 1, 2, 4 or 8; index 4 is none
 unfoldable pub scaledIndex : Machine → ℕ → ℕ
@@ -25,5 +25,5 @@ addressBase m modrm sib =
     (baseRegister m modrm (rmOf modrm))
 
 -- the effective address
-unfoldable pub effectiveAddress : Machine → Decoded → ℕ
-effectiveAddress m d = rest Dword (pos (addressBase m (d .modrm) (d .sib) + d .displacement))
+unfoldable pub effectiveAddress : Machine → Address → ℕ
+effectiveAddress m a = rest Dword (pos (addressBase m (a .modrm) (a .sib) + a .displacement))

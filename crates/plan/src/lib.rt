@@ -2,7 +2,7 @@
 ghost use mathlib.Core.Path.{_≡_};
 ghost use Prim.Native.Nat.{_^_, _<_};
 ghost use Rattle.plan.specs.Addresses.{scaledIndex, baseRegister, addressBase, effectiveAddress};
-ghost use Rattle.plan.specs.Plans.{sizeOf, operandOf, nextOf, planFor, leads, planOf};
+ghost use Rattle.plan.specs.Plans.{sizeOf, operandOf, isOffset, offsetAlone, addressIn, nextOf, planFor, leads, planOf};
 use grammar::instruction::Decoded;
 use grammar::relative::Relative;
 use grammar::rule::Repeat;
@@ -12,14 +12,21 @@ use sense::Place;
 use sense::Sense;
 use width::Size;
 
-// An operand: a part of a register, the memory at an address, or a number.
+// An operand: a part of a register, the memory at the effective address, or a number.
 pub enum Operand {
     Register(u32),
-    Memory(u32),
+    Memory,
     Number(u32),
 }
 
-// What one step does, before any operand's value is read.
+// What an effective address is computed from.
+pub struct Address {
+    pub modrm: u8,
+    pub sib: u8,
+    pub displacement: u32,
+}
+
+// What one step does, of its instruction and place alone.
 pub struct Plan {
     pub operation: Operation,
     pub size: Size,
@@ -31,6 +38,8 @@ pub struct Plan {
     pub next: u32,
     // The address that a displacement leads to.
     pub target: u32,
+    // Where the operand in memory is.
+    pub address: Address,
 }
 
 // A SIB byte's index: the register times 1, 2, 4 or 8; index 4 is none.
@@ -69,11 +78,11 @@ fn address_base(m: Machine, modrm: u8, sib: u8) -> u64
 }
 
 // The effective address.
-pub fn effective_address(m: Machine, d: Decoded) -> u32
-    ensures { λ r. ⌜ r ≡ effectiveAddress m d ⌝ }
+pub fn effective_address(m: Machine, a: Address) -> u32
+    ensures { λ r. ⌜ r ≡ effectiveAddress m a ⌝ }
 {
-    let base = address_base(m, d.modrm, d.sib);
-    width::low(Size::Dword, base + d.displacement as u64)
+    let base = address_base(m, a.modrm, a.sib);
+    width::low(Size::Dword, base + a.displacement as u64)
 }
 
 // Bytes; else words under 66, and doublewords without.
@@ -86,9 +95,9 @@ pub fn size_of(byte: bool, narrow: bool) -> Size
     if narrow { Size::Word } else { Size::Dword }
 }
 
-// The operand at a place, where the effective address is a.
-pub fn operand_at(place: Place, a: u32, d: Decoded, w: Size) -> Operand
-    ensures { λ r. ⌜ r ≡ operandOf place a d w ⌝ }
+// The operand at a place.
+pub fn operand_at(place: Place, d: Decoded, w: Size) -> Operand
+    ensures { λ r. ⌜ r ≡ operandOf place d w ⌝ }
 {
     match place {
         Place::Absent => Operand::Number(0),
@@ -96,7 +105,7 @@ pub fn operand_at(place: Place, a: u32, d: Decoded, w: Size) -> Operand
             if d.modrm / 64 == 3 {
                 Operand::Register((d.modrm % 8) as u32)
             } else {
-                Operand::Memory(a)
+                Operand::Memory
             }
         }
         Place::Reg => Operand::Register((d.modrm / 8 % 8) as u32),
@@ -104,45 +113,86 @@ pub fn operand_at(place: Place, a: u32, d: Decoded, w: Size) -> Operand
         Place::OpcodeRegister => Operand::Register((d.opcode % 8) as u32),
         Place::Immediate => Operand::Number(d.immediate),
         Place::SignedImmediate => Operand::Number(width::sign_extended(Size::Byte, w, d.immediate)),
-        Place::Offset => Operand::Memory(d.immediate),
+        Place::Offset => Operand::Memory,
         Place::One => Operand::Number(1),
         Place::Cl => Operand::Register(1),
     }
 }
 
+// The immediate as a displacement alone: Mod 0 and R/M 5.
+fn offset_alone(immediate: u32) -> Address
+    ensures { λ r. ⌜ r ≡ offsetAlone immediate ⌝ }
+{
+    Address {
+        modrm: 5,
+        sib: 0,
+        displacement: immediate,
+    }
+}
+
+// Whether a place is memory at an offset, the immediate.
+fn is_offset(place: Place) -> bool
+    ensures { λ r. ⌜ r ≡ isOffset place ⌝ }
+{
+    match place {
+        Place::Absent
+        | Place::Rm
+        | Place::Reg
+        | Place::Accumulator
+        | Place::OpcodeRegister
+        | Place::Immediate
+        | Place::SignedImmediate
+        | Place::One
+        | Place::Cl => false,
+        Place::Offset => true,
+    }
+}
+
+// What the effective address is computed from: the offset alone, as a displacement; else the instruction's ModR/M, SIB and displacement.
+fn address_in(s: Sense, d: Decoded) -> Address
+    ensures { λ r. ⌜ r ≡ addressIn s d ⌝ }
+{
+    let destination = s.destination;
+    let source = s.source;
+    if is_offset(destination) {
+        return offset_alone(d.immediate);
+    }
+    if is_offset(source) {
+        return offset_alone(d.immediate);
+    }
+    Address {
+        modrm: d.modrm,
+        sib: d.sib,
+        displacement: d.displacement,
+    }
+}
+
 // The address of the next instruction.
-pub fn next_of(m: Machine, d: Decoded) -> u32
-    ensures { λ r. ⌜ r ≡ nextOf m d ⌝ }
+pub fn next_of(eip: u32, d: Decoded) -> u32
+    ensures { λ r. ⌜ r ≡ nextOf eip d ⌝ }
 {
     let size = (d.length % 0x1_0000_0000) as u64;
-    width::low(Size::Dword, m.eip as u64 + size)
+    width::low(Size::Dword, eip as u64 + size)
 }
 
 // The plan, from what the opcode means, its operation and its size.
-pub fn plan_for(
-    m: Machine,
-    d: Decoded,
-    s: Sense,
-    operation: Operation,
-    w: Size,
-    target: u32,
-) -> Plan
-    ensures { λ r. ⌜ r ≡ planFor m d s operation w target ⌝ }
+pub fn plan_for(eip: u32, d: Decoded, s: Sense, operation: Operation, w: Size, target: u32) -> Plan
+    ensures { λ r. ⌜ r ≡ planFor eip d s operation w target ⌝ }
 {
     let destination = s.destination;
     let source = s.source;
     let other = s.other;
     let repeat = d.repeat;
-    let a = effective_address(m, d);
     Plan {
         operation,
         size: w,
-        destination: operand_at(destination, a, d, w),
-        source: operand_at(source, a, d, w),
-        other: operand_at(other, a, d, w),
+        destination: operand_at(destination, d, w),
+        source: operand_at(source, d, w),
+        other: operand_at(other, d, w),
         repeat,
-        next: next_of(m, d),
+        next: next_of(eip, d),
         target,
+        address: address_in(s, d),
     }
 }
 
@@ -156,14 +206,14 @@ fn lead(relative: Relative, next: u32) -> u32
     }
 }
 
-// The plan of a decoded instruction.
-pub fn plan_of(m: Machine, d: Decoded) -> Plan
-    ensures { λ r. ⌜ r ≡ planOf m d ⌝ }
+// The plan of a decoded instruction at an address.
+pub fn plan_of(eip: u32, d: Decoded) -> Plan
+    ensures { λ r. ⌜ r ≡ planOf eip d ⌝ }
 {
     let s = sense::table::sense(d.opcode);
     let kind = s.kind;
     let operation = sense::operations::operation(kind, d.opcode, (d.modrm / 8 % 8) as u32);
     let w = size_of(s.byte, d.narrow);
-    let target = lead(grammar::relative::relative_of(d), next_of(m, d));
-    plan_for(m, d, s, operation, w, target)
+    let target = lead(grammar::relative::relative_of(d), next_of(eip, d));
+    plan_for(eip, d, s, operation, w, target)
 }

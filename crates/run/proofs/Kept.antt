@@ -27,10 +27,10 @@ either m d false p q = q
 
 executed-keeps : (f : Found) (m : Machine) (d : List ℕ) → Keeps m d (executed f m d)
 unfolding executed
-executed-keeps (Found.Instruction i) m d = from (planned-comes (planOf m i) m d)
+executed-keeps (Found.Instruction i) m d = from (planned-comes (planOf (m .eip) i) m d)
   where
-    from : {v : Moved} → Comes (planOf m i) m d v → Keeps m d v
-    from (goes-on r s l) = moves (record { registers = regs-kept ((planOf m i) .operation) m (planOf m i) r s; long = l })
+    from : {a : ℕ} {v : Moved} → Comes (planOf (m .eip) i) m a d v → Keeps m d v
+    from {a} (goes-on r s l) = moves (record { registers = regs-kept ((planOf (m .eip) i) .operation) m (planOf (m .eip) i) a r s; long = l })
     from (Comes.stops n low high) = stops
 executed-keeps Found.Cut m d = stops
 executed-keeps Found.Unknown m d = stops

@@ -12,6 +12,7 @@ use Rattle.machine.specs.declared.memory.Stored.the-variants.{Done}
 use Rattle.machine.specs.Memory.{loadOf}
 use Rattle.machine.proofs.Access.{store-length}
 use Rattle.plan.specs.declared.Plan.{Plan}
+use Rattle.plan.specs.Addresses.{effectiveAddress}
 use Rattle.effect.specs.declared.outcome.Outcome.{Outcome}
 use Rattle.effect.specs.declared.outcome.Outcome.the-variants.{Becomes, Writes, Faults}
 use Rattle.effect.specs.declared.outcome.Reads.{Reads}
@@ -20,58 +21,59 @@ use Rattle.effect.specs.All.{effectBy}
 use Rattle.run.specs.Steps.{Moved, next, stop, stored, committed, finished, loaded, performed, planned}
 
 -- the step of a plan goes on to the machine of its effect, with data of the same length, or stops with a number from 5 to 7
-pub data Comes (p : Plan) (m : Machine) (d : List ℕ) : Moved → Type 0 where
-  goes-on : (r s : ℕ) {d′ : List ℕ} → length d′ ≡ length d → Comes p m d (next ((effectBy (p .operation) m p r s) .machine) d′)
-  stops : (n : ℕ) {a : ℕ} → 5 ≤ n → n ≤ 7 → Comes p m d (stop n a)
+pub data Comes (p : Plan) (m : Machine) (a : ℕ) (d : List ℕ) : Moved → Type 0 where
+  goes-on : (r s : ℕ) {d′ : List ℕ} → length d′ ≡ length d → Comes p m a d (next ((effectBy (p .operation) m p a r s) .machine) d′)
+  stops : (n : ℕ) {b : ℕ} → 5 ≤ n → n ≤ 7 → Comes p m a d (stop n b)
 
 -- the machine after the effect of a plan, with what was read
 pub record Effected (p : Plan) (m after : Machine) : Type 0 where
   pub r : ℕ
   pub s : ℕ
-  pub is : after ≡ (effectBy (p .operation) m p r s) .machine
+  pub is : after ≡ (effectBy (p .operation) m p (effectiveAddress m (p .address)) r s) .machine
 
-module _ (p : Plan) (m : Machine) (d : List ℕ) where
+module _ (p : Plan) (m : Machine) (a : ℕ) (d : List ℕ) where
   -- so it is with a write
-  stored-comes : (answer : Stored) (r s : ℕ) → Comes p m d (stored answer (effectBy (p .operation) m p r s) d)
+  stored-comes : (answer : Stored) (r s : ℕ) → Comes p m a d (stored answer (effectBy (p .operation) m p a r s) d)
   unfolding stored
   stored-comes Done r s = goes-on r s (store-length d _ _ _)
-  stored-comes (Stored.Outside a) r s = stops 6 (omega arith) (omega arith)
+  stored-comes (Stored.Outside b) r s = stops 6 (omega arith) (omega arith)
 
   -- with an effect
-  committed-comes : (o : Outcome) (r s : ℕ) → Comes p m d (committed o (effectBy (p .operation) m p r s) m d)
+  committed-comes : (o : Outcome) (r s : ℕ) → Comes p m a d (committed o (effectBy (p .operation) m p a r s) m d)
   unfolding committed
   committed-comes Becomes r s = goes-on r s refl
   committed-comes Writes r s = stored-comes _ r s
   committed-comes Faults r s = stops 7 (omega arith) (omega arith)
 
   -- with the effect of what was read
-  finished-comes : (r s : ℕ) → Comes p m d (finished p m d r s)
+  finished-comes : (r s : ℕ) → Comes p m a d (finished p m a d r s)
   unfolding finished
   finished-comes r s = committed-comes _ r s
 
   -- with a read, if it is so with what follows
-  loaded-comes : (answer : Loaded) (go : ℕ → Moved) → ((v : ℕ) → Comes p m d (go v)) → Comes p m d (loaded answer go)
+  loaded-comes : (answer : Loaded) (go : ℕ → Moved) → ((v : ℕ) → Comes p m a d (go v)) → Comes p m a d (loaded answer go)
   unfolding loaded
   loaded-comes (Value v) go h = h v
-  loaded-comes (Loaded.Outside a) go h = stops 5 (omega arith) (omega arith)
+  loaded-comes (Loaded.Outside b) go h = stops 5 (omega arith) (omega arith)
 
   -- with the reads, and then the effect
-  performed-comes : (reads : Reads) → Comes p m d (performed reads p m d)
+  performed-comes : (reads : Reads) → Comes p m a d (performed reads p m a d)
   unfolding performed
   performed-comes Nothing = finished-comes 0 0
-  performed-comes (One w a) = loaded-comes (loadOf d w a) _ (λ r. finished-comes r 0)
-  performed-comes (Two w a b) = loaded-comes (loadOf d w a) _ (λ r. loaded-comes (loadOf d w b) _ (λ s. finished-comes r s))
+  performed-comes (One w b) = loaded-comes (loadOf d w b) _ (λ r. finished-comes r 0)
+  performed-comes (Two w b c) = loaded-comes (loadOf d w b) _ (λ r. loaded-comes (loadOf d w c) _ (λ s. finished-comes r s))
 
+module _ (p : Plan) (m : Machine) (d : List ℕ) where
   -- with the step of a plan
-  pub planned-comes : Comes p m d (planned p m d)
+  pub planned-comes : Comes p m (effectiveAddress m (p .address)) d (planned p m d)
   unfolding planned
-  planned-comes = performed-comes _
+  planned-comes = performed-comes p m _ d _
 
   -- the step of a plan stops only with 5, 6 or 7
   pub planned-stops : {n a : ℕ} → planned p m d ≡ stop n a → (5 ≤ n) × (n ≤ 7)
   planned-stops {n} {a} = by planned-comes
     where
-      by : {moved : Moved} → Comes p m d moved → moved ≡ stop n a → (5 ≤ n) × (n ≤ 7)
+      by : {moved : Moved} → Comes p m (effectiveAddress m (p .address)) d moved → moved ≡ stop n a → (5 ≤ n) × (n ≤ 7)
       by (goes-on r s l) e = absurd (let z : _≡_ {A = ℕ} 0 1 = cc in omega arith)
       by (stops k l h) e = let z : n ≡ k = cc in (omega arith, omega arith)
 
@@ -79,6 +81,6 @@ module _ (p : Plan) (m : Machine) (d : List ℕ) where
   pub planned-goes : {m′ : Machine} {d′ : List ℕ} → planned p m d ≡ next m′ d′ → Effected p m m′
   planned-goes {m′} {d′} = by planned-comes
     where
-      by : {moved : Moved} → Comes p m d moved → moved ≡ next m′ d′ → Effected p m m′
+      by : {moved : Moved} → Comes p m (effectiveAddress m (p .address)) d moved → moved ≡ next m′ d′ → Effected p m m′
       by (goes-on r s l) e = record { r = r; s = s; is = cc }
       by (stops k l h) e = absurd (let z : _≡_ {A = ℕ} 0 1 = cc in omega arith)

@@ -23,6 +23,7 @@ use Rattle.blockcheck.specs.Blocks.{codeBase}
 use Rattle.sense.specs.declared.Strings.{Strings}
 use Rattle.sense.specs.declared.Operation.{Operation}
 use Rattle.plan.specs.declared.Plan.{Plan}
+use Rattle.plan.specs.Addresses.{effectiveAddress}
 use Rattle.plan.specs.Plans.{nextOf, planFor, planOf}
 use Rattle.effect.specs.declared.outcome.Effect.{Effect}
 use Rattle.effect.specs.declared.outcome.Reads.the-variants.{Nothing}
@@ -50,28 +51,20 @@ runs-on {k = suc k} (on e more) b done =
     let count : suc k + done ≡ k + suc done = omega arith in
     rw (budget, e, count) (runs-on more b (suc done))
 
--- two plans with the same operation, repeat prefix and next instruction
-pub record SamePlan (p q : Plan) : Type 0 where
-  pub operation : p .operation ≡ q .operation
-  pub repeat : p .repeat ≡ q .repeat
-  pub next : p .next ≡ q .next
-
--- those of an instruction at one EIP are such
-pub same-plan : (m m′ : Machine) (i : Decoded) → m′ .eip ≡ m .eip → SamePlan (planOf m′ i) (planOf m i)
-unfolding planOf planFor nextOf
-same-plan m m′ i h = record { operation = refl; repeat = refl; next = rw h }
+-- the plans of an instruction at one EIP are equal
+pub same-plan : (m m′ : Machine) (i : Decoded) → m′ .eip ≡ m .eip → planOf (m′ .eip) i ≡ planOf (m .eip) i
+same-plan m m′ i h = rw h
 
 -- what a round that leaves ECX = n does: EIP moves on if ECX is now 0, else it stays
 pub record Round (i : Decoded) (m m′ : Machine) (n : ℕ) : Type 0 where
   pub count : register m′ ecx ≡ n
   pub many : length (m′ .regs) ≡ 8
-  pub place : m′ .eip ≡ cond (eqb n 0) ((planOf m i) .next) (m .eip)
+  pub place : m′ .eip ≡ cond (eqb n 0) ((planOf (m .eip) i) .next) (m .eip)
 
 module _ {code : List ℕ} {i : Decoded} {op : Strings} {m : Machine} (at : Repeating code i op m) where
   -- a machine with the same EIP is at the instruction too
   still : {m′ : Machine} → m′ .eip ≡ m .eip → length (m′ .regs) ≡ 8 → Repeating code i op m′
   still {m′} place eight =
-      let same = same-plan m m′ i place in
       record {
         place =
             record {
@@ -80,14 +73,14 @@ module _ {code : List ℕ} {i : Decoded} {op : Strings} {m : Machine} (at : Repe
               high = rw place (at .place .high);
             };
         found = rw place (at .found);
-        operation = same .operation ∙ at .operation;
+        operation = rw place (at .operation);
         plain = at .plain;
-        prefix = same .repeat ∙ at .prefix;
+        prefix = rw place (at .prefix);
         eight = eight;
       }
 
   -- the next instruction is at another place
-  pub next-elsewhere : (planOf m i) .next ≡ m .eip → ⊥
+  pub next-elsewhere : (planOf (m .eip) i) .next ≡ m .eip → ⊥
   unfolding planOf planFor nextOf rest residue modulus bits
   next-elsewhere e =
       let some = found-standing code (m .eip - codeBase) i (at .found) .some in
@@ -95,37 +88,39 @@ module _ {code : List ℕ} {i : Decoded} {op : Strings} {m : Machine} (at : Repe
       omega arith
 
   -- the effect is that of the string operation
-  is-effect : (r s : ℕ) → effectBy ((planOf m i) .operation) m (planOf m i) r s ≡ stringEffect op m (planOf m i) r s
+  is-effect : (a r s : ℕ) → effectBy ((planOf (m .eip) i) .operation) m (planOf (m .eip) i) a r s ≡ stringEffect op m (planOf (m .eip) i) r s
   unfolding effectBy
-  is-effect r s = ap (λ (o : Operation). effectBy o m (planOf m i) r s) (at .operation)
+  is-effect a r s = ap (λ (o : Operation). effectBy o m (planOf (m .eip) i) a r s) (at .operation)
 
   -- with ECX 0 nothing is read
-  reads-nothing : register m ecx ≡ 0 → readsBy ((planOf m i) .operation) m (planOf m i) ≡ Nothing
+  reads-nothing : (a : ℕ) → register m ecx ≡ 0 → readsBy ((planOf (m .eip) i) .operation) m (planOf (m .eip) i) a ≡ Nothing
   unfolding readsBy stringReads idle
-  reads-nothing none =
-      ap (λ (o : Operation). readsBy o m (planOf m i)) (at .operation) ∙ simp (at .prefix, none)
+  reads-nothing a none =
+      ap (λ (o : Operation). readsBy o m (planOf (m .eip) i) a) (at .operation) ∙ simp (at .prefix, none)
 
   module _ (d : List ℕ) where
     -- the step is that of the plan
-    is-planned : stepOf code m d ≡ planned (planOf m i) m d
+    is-planned : stepOf code m d ≡ planned (planOf (m .eip) i) m d
     unfolding executed
     is-planned = step-found code m d (at .place) ∙ rw (at .found)
 
     -- if ECX is 0, one step that only moves EIP on
-    pub only-moves-on : register m ecx ≡ 0 → stepOf code m d ≡ next (withEip m ((planOf m i) .next)) d
+    pub only-moves-on : register m ecx ≡ 0 → stepOf code m d ≡ next (withEip m ((planOf (m .eip) i) .next)) d
     unfolding planned performed finished committed becomes onward
     only-moves-on none =
-        is-planned ∙ rw (reads-nothing none, is-effect 0 0 ∙ none-left op m (planOf m i) 0 0 (at .prefix) none)
+        let p = planOf (m .eip) i in
+        let a = effectiveAddress m (p .address) in
+        is-planned ∙ rw (reads-nothing a none, is-effect a 0 0 ∙ none-left op m p 0 0 (at .prefix) none)
 
     -- otherwise a step that is not stopped does one round, ECX less 1
     pub one-round : {n : ℕ} {m′ : Machine} {d′ : List ℕ} → register m ecx ≡ suc n → register m ecx < 2 ^ 32
         → stepOf code m d ≡ next m′ d′ → Round i m m′ n
     one-round {n} count bound e =
-        let p = planOf m i in
+        let p = planOf (m .eip) i in
         let done = planned-goes p m d (sym is-planned ∙ e) in
         let r = done .r in
         let s = done .s in
-        let is = done .is ∙ ap (λ (x : Effect). x .machine) (is-effect r s) in
+        let is = done .is ∙ ap (λ (x : Effect). x .machine) (is-effect _ r s) in
         record {
           count = ap (λ (x : Machine). register x ecx) is ∙ counts op m p r s (at .prefix) n count bound (at .eight);
           many = ap (λ (x : Machine). length (x .regs)) is ∙ as-many op m p r s (at .prefix) n count bound ∙ at .eight;
@@ -159,7 +154,7 @@ module _ {code : List ℕ} {i : Decoded} {op : Strings} where
   rounds-over {m} {d} {n = suc n} at count bound (on {m₁} e (on f more)) =
       let one = not-last at d n count (omega arith) e in
       let later = rounds-over (one .again) (one .count) (omega arith) (on f more) in
-      record { place = later .place ∙ same-plan m m₁ i (one .place) .next; count = later .count }
+      record { place = later .place ∙ ap (λ (p : Plan). p .next) (same-plan m m₁ i (one .place)); count = later .count }
 
   -- after k of the steps for ECX = n, and not yet all, EIP is still at the instruction, with ECX = n - k
   pub stays-before : {m m′ : Machine} {d d′ : List ℕ} (n : ℕ) {k : ℕ} → Repeating code i op m → register m ecx ≡ n → n < 2 ^ 32
@@ -175,7 +170,7 @@ module _ {code : List ℕ} {i : Decoded} {op : Strings} where
   unfolding stepsFor register withEip
   over-after {m} {m′} {d} zero at count bound (on e here) =
       let moved = only-moves-on at d count in
-      let is : m′ ≡ withEip m ((planOf m i) .next) = cc in
+      let is : m′ ≡ withEip m ((planOf (m .eip) i) .next) = cc in
       record { place = ap (λ (x : Machine). x .eip) is; count = ap (λ (x : Machine). register x ecx) is ∙ count }
   over-after (suc n) at count bound steps = rounds-over at count bound steps
 

@@ -95,7 +95,7 @@ module _ (code : List ℕ) (m : Machine) (d : List ℕ) where
           ∙ rw (answers-decode code (m .eip - codeBase) (unknown (h .begins-with-none) (h .no-prefix)), h .address)
 
   -- where they begin with an instruction, the step is that of its plan
-  pub instruction-steps : InCode code m → (i : Begins (fromEip code m)) → stepOf code m d ≡ planned (planOf m (numbers (i .instruction .parts))) m d
+  pub instruction-steps : InCode code m → (i : Begins (fromEip code m)) → stepOf code m d ≡ planned (planOf (m .eip) (numbers (i .instruction .parts))) m d
   unfolding executed
   instruction-steps place i = step-found code m d place ∙ rw (answers-decode code (m .eip - codeBase) (instruction i))
 

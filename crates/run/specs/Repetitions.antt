@@ -29,9 +29,9 @@ pub data After (code : List ℕ) : ℕ → Machine → List ℕ → Machine → 
 pub record Repeating (code : List ℕ) (i : Decoded) (op : Strings) (m : Machine) : Type 0 where
   pub place : InCode code m
   pub found : decodeOf code (m .eip - codeBase) ≡ Found.Instruction i
-  pub operation : (planOf m i) .operation ≡ Operation.Strings op
+  pub operation : (planOf (m .eip) i) .operation ≡ Operation.Strings op
   pub plain : compares op ≡ false
-  pub prefix : (planOf m i) .repeat ≡ Repeat.F3
+  pub prefix : (planOf (m .eip) i) .repeat ≡ Repeat.F3
   pub eight : length (m .regs) ≡ 8
 
 -- the repetition goes on: EIP is still at the instruction, with ECX = n
@@ -42,7 +42,7 @@ pub record Left (code : List ℕ) (i : Decoded) (op : Strings) (m m′ : Machine
 
 -- the repetition is over: EIP is at the next instruction, with ECX 0
 pub record Over (i : Decoded) (m m′ : Machine) : Type 0 where
-  pub place : m′ .eip ≡ (planOf m i) .next
+  pub place : m′ .eip ≡ (planOf (m .eip) i) .next
   pub count : register m′ ecx ≡ 0
 
 -- the steps that a repetition from ECX = n takes: n, or 1 where n is 0

@@ -15,6 +15,7 @@ use Rattle.grammar.specs.Decoding.{decodeOf}
 use Rattle.grammar.specs.declared.instruction.Found.{Found}
 use Rattle.blockcheck.specs.Blocks.{codeBase}
 use Rattle.plan.specs.declared.Plan.{Plan}
+use Rattle.plan.specs.Addresses.{effectiveAddress}
 use Rattle.plan.specs.Plans.{planOf}
 use Rattle.effect.specs.declared.outcome.Outcome.{Outcome}
 use Rattle.effect.specs.declared.outcome.Outcome.the-variants.{Becomes, Writes, Faults}
@@ -48,9 +49,9 @@ committed Becomes e m d = next (e .machine) d
 committed Writes e m d = stored (storedOf d (e .size) (e .address)) e d
 committed Faults e m d = stop 7 (m .eip)
 
--- the effect of a plan with what was read
-unfoldable pub finished : Plan → Machine → List ℕ → ℕ → ℕ → Moved
-finished p m d r s = committed ((effectBy (p .operation) m p r s) .outcome) (effectBy (p .operation) m p r s) m d
+-- the effect of a plan with what was read, where a is the effective address
+unfoldable pub finished : Plan → Machine → ℕ → List ℕ → ℕ → ℕ → Moved
+finished p m a d r s = committed ((effectBy (p .operation) m p a r s) .outcome) (effectBy (p .operation) m p a r s) m d
 
 -- 5: a read is allowed or not
 unfoldable pub loaded : Loaded → (ℕ → Moved) → Moved
@@ -58,18 +59,18 @@ loaded (Value v) go = go v
 loaded (Loaded.Outside a) go = stop 5 a
 
 -- reads come before the write, in their order
-unfoldable pub performed : Reads → Plan → Machine → List ℕ → Moved
-performed Nothing p m d = finished p m d 0 0
-performed (One w a) p m d = loaded (loadOf d w a) (λ r. finished p m d r 0)
-performed (Two w a b) p m d = loaded (loadOf d w a) (λ r. loaded (loadOf d w b) (λ s. finished p m d r s))
+unfoldable pub performed : Reads → Plan → Machine → ℕ → List ℕ → Moved
+performed Nothing p m a d = finished p m a d 0 0
+performed (One w b) p m a d = loaded (loadOf d w b) (λ r. finished p m a d r 0)
+performed (Two w b c) p m a d = loaded (loadOf d w b) (λ r. loaded (loadOf d w c) (λ s. finished p m a d r s))
 
 -- the step of a plan
 unfoldable pub planned : Plan → Machine → List ℕ → Moved
-planned p m d = performed (readsBy (p .operation) m p) p m d
+planned p m d = let a = effectiveAddress m (p .address) in performed (readsBy (p .operation) m p a) p m a d
 
 -- 3: cut; 4: no such instruction
 unfoldable pub executed : Found → Machine → List ℕ → Moved
-executed (Found.Instruction i) m d = planned (planOf m i) m d
+executed (Found.Instruction i) m d = planned (planOf (m .eip) i) m d
 executed Found.Cut m d = stop 3 (m .eip)
 executed Found.Unknown m d = stop 4 (m .eip)
 

@@ -78,12 +78,12 @@ fn commit(e: Effect, m: Machine, area: &mut [u8]) -> Stepped
     }
 }
 
-// The effect of a plan with what was read.
-fn finish(p: Plan, m: Machine, area: &mut [u8], r: u32, s: u32) -> Stepped
-    ensures { λ t. ⌜ Steps (finished p m (now (area .entry)) r s) m (now (area .entry)) t (now (area .exit)) ⌝ }
+// The effect of a plan with what was read, where a is the effective address.
+fn finish(p: Plan, m: Machine, a: u32, area: &mut [u8], r: u32, s: u32) -> Stepped
+    ensures { λ t. ⌜ Steps (finished p m a (now (area .entry)) r s) m (now (area .entry)) t (now (area .exit)) ⌝ }
 {
     let op = p.operation;
-    commit(effect_by(op, m, p, r, s), m, area)
+    commit(effect_by(op, m, p, a, r, s), m, area)
 }
 
 // What was read, 0 where nothing was; or the address that is outside.
@@ -95,7 +95,7 @@ enum Fetched {
 // The second read of two, where r is the first.
 fn fetch_second(area: &[u8], r: u32, w: Size, a: u32) -> Fetched
     ensures { λ f. ⌜
-        Fetches (λ p m. loaded (loadOf (now (area .entry)) w a) (λ s. finished p m (now (area .entry)) r s)) (now (area .entry)) f
+        Fetches (λ p m e. loaded (loadOf (now (area .entry)) w a) (λ s. finished p m e (now (area .entry)) r s)) (now (area .entry)) f
         ⌝ }
 {
     match machine::memory::load(area, w, a) {
@@ -109,7 +109,7 @@ fn fetch_second(area: &[u8], r: u32, w: Size, a: u32) -> Fetched
 
 // The reads, in their order.
 fn fetch(reads: Reads, area: &[u8]) -> Fetched
-    ensures { λ f. ⌜ Fetches (λ p m. performed reads p m (now (area .entry))) (now (area .entry)) f ⌝ }
+    ensures { λ f. ⌜ Fetches (λ p m a. performed reads p m a (now (area .entry))) (now (area .entry)) f ⌝ }
 {
     match reads {
         Reads::Nothing => Fetched::Values {
@@ -135,12 +135,12 @@ fn fetch(reads: Reads, area: &[u8]) -> Fetched
 }
 
 // The reads, in their order, and then the effect.
-fn perform(reads: Reads, p: Plan, m: Machine, area: &mut [u8]) -> Stepped
-    ensures { λ r. ⌜ Steps (performed reads p m (now (area .entry))) m (now (area .entry)) r (now (area .exit)) ⌝ }
+fn perform(reads: Reads, p: Plan, m: Machine, a: u32, area: &mut [u8]) -> Stepped
+    ensures { λ r. ⌜ Steps (performed reads p m a (now (area .entry))) m (now (area .entry)) r (now (area .exit)) ⌝ }
 {
     match fetch(reads, area) {
-        Fetched::Values { first, second } => finish(p, m, area, first, second),
-        Fetched::Outside(a) => stop(m, 5, a),
+        Fetched::Values { first, second } => finish(p, m, a, area, first, second),
+        Fetched::Outside(b) => stop(m, 5, b),
     }
 }
 
@@ -149,7 +149,9 @@ fn follow(p: Plan, m: Machine, area: &mut [u8]) -> Stepped
     ensures { λ r. ⌜ Steps (planned p m (now (area .entry))) m (now (area .entry)) r (now (area .exit)) ⌝ }
 {
     let op = p.operation;
-    perform(reads_by(op, m, p), p, m, area)
+    let address = p.address;
+    let a = plan::effective_address(m, address);
+    perform(reads_by(op, m, p, a), p, m, a, area)
 }
 
 // The step at a place inside the code.
@@ -157,7 +159,7 @@ fn execute(code: &[u8], at: usize, m: Machine, area: &mut [u8]) -> Stepped
     ensures { λ r. ⌜ Steps (executed (decodeOf (now (code .entry)) at) m (now (area .entry))) m (now (area .entry)) r (now (area .exit)) ⌝ }
 {
     match grammar::reader::read(code, at) {
-        Found::Instruction(d) => follow(plan::plan_of(m, d), m, area),
+        Found::Instruction(d) => follow(plan::plan_of(m.eip, d), m, area),
         Found::Cut => stop(m, 3, m.eip),
         Found::Unknown => stop(m, 4, m.eip),
     }

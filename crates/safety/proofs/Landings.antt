@@ -65,7 +65,7 @@ end-outside code =
 module _ {code : List ℕ} (ok : Acceptable code) (m : Machine) {i : ℕ} (start : Start code i) (at : m .eip ≡ codeBase + i)
     (x : Decoded) (found : decodeOf code i ≡ Found.Instruction x) where
   -- the next instruction's address does not wrap
-  next-address : nextOf m x ≡ codeBase + (i + x .length)
+  next-address : nextOf (m .eip) x ≡ codeBase + (i + x .length)
   unfolding nextOf codeBase
   next-address =
       let sized = ok .sized in
@@ -73,13 +73,13 @@ module _ {code : List ℕ} (ok : Acceptable code) (m : Machine) {i : ℕ} (start
       rw (wraps, at) (omega arith)
 
   -- the next instruction's address is landed
-  next-landed : Landed code (nextOf m x)
+  next-landed : Landed code (nextOf (m .eip) x)
   next-landed =
       rw next-address
       (⊎-elim (λ s. at-start s refl) (λ e. outside (rw e (end-outside code))) (falls-through start x found))
 
   -- so is where the displacement leads
-  target-landed : (by : Relative) → relativeOf x ≡ by → Landed code (leads by (nextOf m x))
+  target-landed : (by : Relative) → relativeOf x ≡ by → Landed code (leads by (nextOf (m .eip) x))
   unfolding leads targetOf
   target-landed Relative.Absent e = next-landed
   target-landed (Relative.By y) e =
@@ -87,18 +87,18 @@ module _ {code : List ℕ} (ok : Acceptable code) (m : Machine) {i : ℕ} (start
       at-start lands (rw (next-address, wraps) (ap (λ (n : ℕ). n % 2 ^ 32) (omega arith) ∙ address))
 
   -- so is the address after any effect that does not go through a register or memory
-  way-landed : {e : Effect} → Way m (planOf m x) e → Landed code (e .machine .eip)
+  way-landed : {e : Effect} → Way m (planOf (m .eip) x) e → Landed code (e .machine .eip)
   unfolding planOf planFor
   way-landed (stays e) = at-start start (e ∙ at)
   way-landed (falls e) = rw e next-landed
   way-landed (Way.leads e) = rw e (target-landed (relativeOf x) refl)
 
   -- the step of the instruction is safe
-  comes-safe : {d : List ℕ} {moved : Moved} → Comes (planOf m x) m d moved → Safe code m moved
+  comes-safe : {a : ℕ} {d : List ℕ} {moved : Moved} → Comes (planOf (m .eip) x) m a d moved → Safe code m moved
   unfolding indirectAt indirectFound codeBase
-  comes-safe (goes-on r s l) =
+  comes-safe {a} (goes-on r s l) =
       let place : m .eip - codeBase ≡ i = omega arith in
-      goes (λ direct. way-landed (way ((planOf m x) .operation) m (planOf m x) r s (rw (place, found) at direct)))
+      goes (λ direct. way-landed (way ((planOf (m .eip) x) .operation) m (planOf (m .eip) x) a r s (rw (place, found) at direct)))
   comes-safe (stops n low high) = halts (late n low)
 
 module _ {code : List ℕ} (ok : Acceptable code) (m : Machine) (d : List ℕ) where
@@ -116,6 +116,6 @@ module _ {code : List ℕ} (ok : Acceptable code) (m : Machine) (d : List ℕ) w
       let sized = ok .sized in
       let place : m .eip - codeBase ≡ s = omega arith in
       rw (in-code code m d (λ e. omega arith) (omega arith) (omega arith), place, found)
-      (comes-safe ok m start at x found (planned-comes (planOf m x) m d))
+      (comes-safe ok m start at x found (planned-comes (planOf (m .eip) x) m d))
   step-safe (Landed.at-home e) = rw (at-home code m d e) (halts (early 1 (omega arith)))
   step-safe (outside e) = outside-safe e

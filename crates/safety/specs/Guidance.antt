@@ -20,7 +20,7 @@ pub data Landed (code : List ℕ) (a : ℕ) : Type 0 where
 
 -- what is found is a return, or a jump or call through a register or memory
 unfoldable pub indirectFound : Found → Machine → Bool
-indirectFound (Found.Instruction d) m = indirect ((planOf m d) .operation)
+indirectFound (Found.Instruction d) m = indirect ((planOf (m .eip) d) .operation)
 indirectFound Found.Cut m = false
 indirectFound Found.Unknown m = false
 

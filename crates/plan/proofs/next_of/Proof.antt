@@ -13,4 +13,4 @@ unfolding bits modulus residue rest nextOf
 returns c = c .low .ensures .is ∙ omega arith
 
 pub next-of-spec : {M : Type 1} → statement M
-next-of-spec = tie.close (tie.spec (λ c. search needs) (λ c. search needs) (λ c κs. search needs) returns)
+next-of-spec = tie.close (tie.spec (λ c. search needs) (λ c κs. search needs) returns)

@@ -8,11 +8,11 @@ returns : tie.Need-returns
 unfolding planFor
 returns c =
     rw (
-      c .next-of .ensures,
-      c .before .operand-at3 .ensures,
-      c .before .before .operand-at2 .ensures,
-      c .before .before .before .operand-at .ensures,
-      c .before .before .before .before .effective-address .ensures,
+      c .address-in .ensures,
+      c .before .next-of .ensures,
+      c .before .before .operand-at3 .ensures,
+      c .before .before .before .operand-at2 .ensures,
+      c .before .before .before .before .operand-at .ensures,
     )
 
 pub plan-for-spec : {M : Type 1} → statement M

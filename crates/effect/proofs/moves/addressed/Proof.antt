@@ -4,7 +4,7 @@ use Rattle.effect.proofs.moves.addressed.Statement.{statement}
 use Rattle.effect.proofs.moves.addressed.Tie as tie
 
 returns : tie.Need-returns
-returns c = simp (c .placed .ensures, c .before .address-of .ensures)
+returns c = c .placed .ensures
 
 pub addressed-spec : {M : Type 1} → statement M
-addressed-spec = tie.close (tie.spec (λ c κs. search needs) (λ c κs. search needs) returns)
+addressed-spec = tie.close (tie.spec (λ c κs. search needs) returns)

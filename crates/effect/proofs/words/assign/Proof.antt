@@ -10,11 +10,11 @@ returns c = simp (c .becomes .ensures, c .before .with-part .ensures, c .before 
 
 returns-2 : tie.Need-returns-2
 unfolding assign
-returns-2 c = simp (c .writes .ensures, c .before .before .o2 .given .1)
+returns-2 c = simp (c .writes .ensures, c .before .enum-told .given .1)
 
 returns-3 : tie.Need-returns-3
 unfolding assign
-returns-3 c = simp (c .becomes2 .ensures, c .before .enum-told .given .1)
+returns-3 c = simp (c .becomes2 .ensures, c .before .enum-told2 .given .1)
 
 pub assign-spec : {M : Type 1} → statement M
 assign-spec =

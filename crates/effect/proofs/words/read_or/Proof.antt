@@ -10,11 +10,11 @@ returns c = simp (c .enum-told .given .1)
 
 returns-2 : tie.Need-returns-2
 unfolding readOr
-returns-2 c = simp (c .before .o .given .1)
+returns-2 c = simp (c .enum-told2 .given .1)
 
 returns-3 : tie.Need-returns-3
 unfolding readOr
-returns-3 c = simp (c .enum-told2 .given .1)
+returns-3 c = simp (c .enum-told3 .given .1)
 
 pub read-or-spec : {M : Type 1} → statement M
 read-or-spec = tie.close (tie.spec (λ c. search needs) (λ c. search needs) (λ c. search needs) returns returns-2 returns-3)

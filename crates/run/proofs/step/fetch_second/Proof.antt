@@ -8,11 +8,11 @@ use Rattle.run.specs.Steps.{loaded}
 
 returns : tie.Need-returns
 unfolding loaded fetched
-returns c = record { is = λ p m. rw (sym (c .before .before .before .load .ensures) ∙ c .before .s .given .1) }
+returns c = record { is = λ p m e. rw (sym (c .before .before .before .load .ensures) ∙ c .before .s .given .1) }
 
 returns-2 : tie.Need-returns-2
 unfolding loaded fetched
-returns-2 c = record { is = λ p m. rw (sym (c .before .before .before .load .ensures) ∙ c .before .b .given .1) }
+returns-2 c = record { is = λ p m e. rw (sym (c .before .before .before .load .ensures) ∙ c .before .b .given .1) }
 
 pub fetch-second-spec : {M : Type 1} → statement M
 fetch-second-spec = tie.close (tie.spec (λ c κs. search needs) (λ c. search needs) (λ c. search needs) returns returns-2)

@@ -6,7 +6,7 @@ use Rattle.run.specs.Steps.{planned}
 
 returns : tie.Need-returns
 unfolding planned
-returns c = rw (← c .before .before .before .before .reads-by .ensures) (c .before .before .perform .ensures)
+returns c = rw (← c .before .before .before .before .before .effective-address .ensures, ← c .before .before .before .before .reads-by .ensures) (c .before .before .perform .ensures)
 
 pub follow-spec : {M : Type 1} → statement M
-follow-spec = tie.close (tie.spec (λ c κs. search needs) (λ c κs. search needs) (λ c. search needs) returns)
+follow-spec = tie.close (tie.spec (λ c κs. search needs) (λ c κs. search needs) (λ c κs. search needs) (λ c. search needs) returns)
