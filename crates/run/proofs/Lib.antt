@@ -1,6 +1,7 @@
 -- The laws of `run`. Assumes nothing.
 pub mod Commits
 pub mod Places
+pub mod Sites
 pub mod Going
 pub mod Handing
 pub mod Planned

@@ -5,3 +5,4 @@ pub mod Runs
 pub mod Standing
 pub mod Pausing
 pub mod Repetitions
+pub mod Sites

@@ -1,7 +1,11 @@
 // A run of a block: refusals before any step, then steps until the budget is used up or one stops.
+mod site;
 pub mod step;
 
-use crate::step::step;
+use crate::site::is_for;
+use crate::site::site_at;
+use crate::site::stopping;
+use crate::site::take;
 use machine::registers::Machine;
 ghost use mathlib.Core.Path.{_≡_};
 ghost use Rattle.run.specs.Runs.{Ends, Runs, runFrom, refusal, opened, closed, runOf};
@@ -51,14 +55,23 @@ fn refusal(code_length: usize, area_length: usize, word: u32, budget: u64) -> u3
     12
 }
 
-// So many steps at the most, until one stops.
+// So many steps at the most, until one stops. What a step takes from the code alone is kept by EIP modulo 64.
 fn steps(code: &[u8], m: Machine, area: &mut [u8], budget: u64) -> End
     ensures { λ r. ⌜ Ends (runFrom (now (code .entry)) budget m (now (area .entry)) 0) r (now (area .exit)) ⌝ }
 {
+    let none = stopping(0, 0);
+    let mut kept = [none; 64];
     let mut at = m;
     let mut n = 0;
     while n < budget {
-        let s = step(code, at, area);
+        let eip = at.eip;
+        let slot = (eip % 64) as usize;
+        let known = kept[slot];
+        if !is_for(known, eip) {
+            kept[slot] = site_at(code, eip);
+        }
+        let here = kept[slot];
+        let s = take(here, at, area);
         if s.stopped {
             return End {
                 machine: at,

@@ -1,10 +1,11 @@
 // One step: the tests for 1 to 7 in their order. Only this module sees the lent data: it loads, and then stores at most once, last.
+use crate::site::site_at;
+use crate::site::take;
 use effect::all::effect_by;
 use effect::all::reads_by;
 use effect::outcome::Effect;
 use effect::outcome::Outcome;
 use effect::outcome::Reads;
-use grammar::instruction::Found;
 use machine::memory::Loaded;
 use machine::memory::Stored;
 use machine::registers::Machine;
@@ -12,13 +13,11 @@ use plan::Plan;
 use width::Size;
 ghost use mathlib.Core.Path.{_≡_};
 ghost use Rattle.machine.specs.Memory.{loadOf};
-ghost use Rattle.grammar.specs.Decoding.{decodeOf};
 ghost use Rattle.run.specs.Steps.{
   stoppedAt,
   movedTo,
   Steps,
   stepOf,
-  executed,
   planned,
   performed,
   loaded,
@@ -36,7 +35,7 @@ pub struct Stepped {
 }
 
 // The step stops; nothing has changed.
-fn stop(m: Machine, number: u32, address: u32) -> Stepped
+pub fn stop(m: Machine, number: u32, address: u32) -> Stepped
     ensures { λ r. ⌜ r ≡ stoppedAt m number address ⌝ }
 {
     Stepped {
@@ -145,7 +144,7 @@ fn perform(reads: Reads, p: Plan, m: Machine, a: u32, area: &mut [u8]) -> Steppe
 }
 
 // The step of a plan.
-fn follow(p: Plan, m: Machine, area: &mut [u8]) -> Stepped
+pub fn follow(p: Plan, m: Machine, area: &mut [u8]) -> Stepped
     ensures { λ r. ⌜ Steps (planned p m (now (area .entry))) m (now (area .entry)) r (now (area .exit)) ⌝ }
 {
     let op = p.operation;
@@ -154,31 +153,9 @@ fn follow(p: Plan, m: Machine, area: &mut [u8]) -> Stepped
     perform(reads_by(op, m, p, a), p, m, a, area)
 }
 
-// The step at a place inside the code.
-fn execute(code: &[u8], at: usize, m: Machine, area: &mut [u8]) -> Stepped
-    ensures { λ r. ⌜ Steps (executed (decodeOf (now (code .entry)) at) m (now (area .entry))) m (now (area .entry)) r (now (area .exit)) ⌝ }
-{
-    match grammar::reader::read(code, at) {
-        Found::Instruction(d) => follow(plan::plan_of(m.eip, d), m, area),
-        Found::Cut => stop(m, 3, m.eip),
-        Found::Unknown => stop(m, 4, m.eip),
-    }
-}
-
 // One step.
 pub fn step(code: &[u8], m: Machine, area: &mut [u8]) -> Stepped
     ensures { λ r. ⌜ Steps (stepOf (now (code .entry)) m (now (area .entry))) m (now (area .entry)) r (now (area .exit)) ⌝ }
 {
-    let eip = m.eip;
-    if eip == 0xFFFF_0000 {
-        return stop(m, 1, eip);
-    }
-    if eip < 0x0001_0000 {
-        return stop(m, 2, eip);
-    }
-    let at = (eip - 0x0001_0000) as usize;
-    if code.len() <= at {
-        return stop(m, 2, eip);
-    }
-    execute(code, at, m, area)
+    take(site_at(code, m.eip), m, area)
 }

@@ -1,0 +1,27 @@
+-- What a step at an EIP takes from the code alone: for the private functions that keep it; nothing here need be believed. Assumes nothing.
+use mathlib.Core.Path.{_≡_}
+use mathlib.Core.Bool.{Bool, true, false, cond}
+use mathlib.Core.List.{List}
+use Prim.Native.Nat.{ℕ}
+use Rattle.machine.specs.declared.registers.Machine.{Machine}
+use Rattle.run.specs.declared.site.Site.{Site}
+use Rattle.run.specs.Steps.{Moved, stop, planned, stepOf}
+
+-- the step of a site: that of its plan, or a stop at EIP
+unfoldable pub siteStep : Site → Machine → List ℕ → Moved
+siteStep s m d = cond (s .planned) (planned (s .plan) m d) (stop (s .number) (m .eip))
+
+-- a site of an EIP where a step stops with a number
+pub record Stops (eip number : ℕ) (s : Site) : Type 0 where
+  pub unplanned : s .planned ≡ false
+  pub place : s .eip ≡ eip
+  pub with : s .number ≡ number
+
+-- a site tells each step at an EIP
+pub record Tells (code : List ℕ) (eip : ℕ) (s : Site) : Type 0 where
+  pub place : s .eip ≡ eip
+  pub is : (m : Machine) (d : List ℕ) → m .eip ≡ eip → stepOf code m d ≡ siteStep s m d
+
+-- a site that has a plan tells each step at its EIP
+pub record Right (code : List ℕ) (s : Site) : Type 0 where
+  pub tells : s .planned ≡ true → Tells code (s .eip) s
