@@ -1,14 +1,18 @@
-//! Times Sangolid beside the partner and Unicorn. Being slow is no failure; ending differently is one.
+//! Times Sangolid beside the partner, Unicorn and libx86emu. Being slow is no failure; ending differently is one.
 //!
 //! From this folder: `SANGOLID_LIB=../target/staticlib cargo run --release`.
 
 mod checks;
+#[cfg(any(unicorn, x86emu))]
+mod engines;
 mod programs;
 mod rows;
 mod runs;
 mod timing;
 #[cfg(unicorn)]
 mod unicorn;
+#[cfg(x86emu)]
+mod x86emu;
 
 use std::process::ExitCode;
 

@@ -8,7 +8,7 @@ pub struct Row {
     pub name: &'static str,
     /// The inputs; every row's block ends at home before the budget does.
     pub case: RunCase,
-    /// Fewest runs in one measurement if each is a fresh one, for which Unicorn opens a new engine.
+    /// Fewest runs in one measurement if each is a fresh one, for which Unicorn and libx86emu open a new engine.
     pub fresh_runs: Option<u32>,
 }
 
@@ -16,8 +16,12 @@ pub struct Row {
 const FEW_BYTES: usize = 64;
 /// Hours of the day on which the clocks go back.
 const HOURS: usize = 25;
-/// Most steps that a day may take.
-const DAY_BUDGET: u64 = 1_000;
+/// Most steps that a fresh run may take.
+const FRESH_BUDGET: u64 = 1_000;
+/// Rounds of the register loop.
+const ROUNDS: u32 = 200_000;
+/// Times that the register loop's instructions stand in the code of the long one.
+const COPIES: usize = 80;
 /// Words of 2 bytes that fill the data, half of them moved from and half to.
 const MOVED_WORDS: u32 = 16_384;
 
@@ -28,6 +32,14 @@ const REGISTER_LOOP: &[u8] = &[
     0x49, // 4: DEC ECX
     0x75, 0xF9, // 5: JNZ 0
     0xC3, // 7: RET
+];
+
+/// The register loop's instructions in 8 bytes; the jump leads to what comes next.
+const REGISTER_COPY: &[u8] = &[
+    0x01, 0xD8, // 0: ADD EAX, EBX
+    0x31, 0xC2, // 2: XOR EDX, EAX
+    0xFF, 0xC9, // 4: DEC ECX
+    0x75, 0x00, // 6: JNZ 8
 ];
 
 /// A word added to, one stored and one compared in each round.
@@ -76,6 +88,9 @@ const DAY: &[u8] = &[
     0xC3, // 9: RET
 ];
 
+/// A return and nothing else.
+const RETURN: &[u8] = &[0xC3]; // 0: RET
+
 /// A machine at the code's start with these of EAX, ECX, EDX, EBX, ESI, EDI.
 fn machine([eax, ecx, edx, ebx, esi, edi]: [u32; 6]) -> Machine {
     Machine { regs: [eax, ecx, edx, ebx, 0, 0, esi, edi], eip: CODE_BASE, flags: ALWAYS }
@@ -94,10 +109,22 @@ fn long(name: &'static str, case: RunCase) -> Row {
     Row { name, case, fresh_runs: None }
 }
 
-/// The register loop with so many bytes of data.
-fn register_loop(length: usize) -> RunCase {
-    let start = machine([1, 200_000, 2, 0x9E37_79B9, 0, 0]);
-    returning(REGISTER_LOOP, start, vec![0; length], MAX_BUDGET)
+/// The register loop in this code with so many bytes of data.
+fn register_loop(code: &[u8], length: usize) -> RunCase {
+    let start = machine([1, ROUNDS, 2, 0x9E37_79B9, 0, 0]);
+    returning(code, start, vec![0; length], MAX_BUDGET)
+}
+
+/// The register loop's instructions again and again, the last jump leading to the start: before the run comes back to a
+/// place it has been at all others whose offsets are equal modulo 64.
+fn long_register_code() -> Vec<u8> {
+    let mut code = REGISTER_COPY.repeat(COPIES);
+    code.truncate(code.len() - 2);
+    let length = code.len() as i32 + 6;
+    code.extend([0x0F, 0x85]); // JNZ 0
+    code.extend((-length).to_le_bytes());
+    code.extend(RETURN);
+    code
 }
 
 /// The memory loop over a few words.
@@ -129,18 +156,25 @@ fn day() -> RunCase {
     let readings = (0..HOURS as u32).map(|hour| 1000 + 17 * hour);
     let stack = 0;
     let data = readings.chain([stack]).flat_map(u32::to_le_bytes).collect();
-    returning(DAY, machine([0, HOURS as u32, 0, 0, DATA_BASE, 0]), data, DAY_BUDGET)
+    returning(DAY, machine([0, HOURS as u32, 0, 0, DATA_BASE, 0]), data, FRESH_BUDGET)
+}
+
+/// One step, home.
+fn one_return() -> RunCase {
+    returning(RETURN, machine([0; 6]), vec![0; FEW_BYTES], FRESH_BUDGET)
 }
 
 /// All rows in the table's order.
 pub fn rows() -> Vec<Row> {
     vec![
-        long("register loop, 64 bytes of data", register_loop(FEW_BYTES)),
-        long("register loop, 64 KiB of data", register_loop(MAX_BYTES)),
+        long("register loop, 64 bytes of data", register_loop(REGISTER_LOOP, FEW_BYTES)),
+        long("register loop, 64 KiB of data", register_loop(REGISTER_LOOP, MAX_BYTES)),
+        long("register loop over 645 bytes of code", register_loop(&long_register_code(), FEW_BYTES)),
         long("memory loop", memory_loop()),
         long("REP MOVSW of 16,384 words", repeated_move()),
         long("call and return loop", call_loop()),
         long("multiply and divide loop", product_loop()),
         Row { name: "1,000 fresh runs of a 25-hour day", case: day(), fresh_runs: Some(1_000) },
+        Row { name: "1,000 fresh runs of one RET", case: one_return(), fresh_runs: Some(1_000) },
     ]
 }

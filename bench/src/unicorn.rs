@@ -5,7 +5,8 @@ use std::ffi::{c_int, c_void};
 use partner::cases::RunCase;
 use partner::machine::{CODE_BASE, DATA_BASE, HOME};
 
-use crate::programs::{End, Program};
+use crate::engines::Engine;
+use crate::programs::End;
 
 extern "C" {
     fn uc_open(architecture: c_int, mode: c_int, engine: *mut *mut c_void) -> c_int;
@@ -35,22 +36,9 @@ fn expect_done(error: c_int) {
 }
 
 /// An engine with a case's code written and room for its data.
-struct Engine(*mut c_void);
+pub struct Unicorn(*mut c_void);
 
-impl Engine {
-    /// Opens an engine for the case.
-    fn open(case: &RunCase) -> Self {
-        let mut opened = std::ptr::null_mut();
-        // The pointer is to a live variable.
-        expect_done(unsafe { uc_open(ARCHITECTURE_X86, MODE_32, &mut opened) });
-        let engine = Engine(opened);
-        engine.map(CODE_BASE, case.code.len(), READ_EXECUTE);
-        engine.map(DATA_BASE, case.data.len(), READ_WRITE);
-        engine.map(HOME, PAGE, READ_EXECUTE);
-        engine.write(CODE_BASE, &case.code);
-        engine
-    }
-
+impl Unicorn {
     /// Maps the pages that so many bytes need.
     fn map(&self, address: u32, bytes: usize, permissions: u32) {
         // The engine is open.
@@ -85,9 +73,22 @@ impl Engine {
         expect_done(unsafe { uc_reg_read(self.0, register, std::ptr::from_mut(&mut word).cast()) });
         word as u32
     }
+}
 
-    /// Runs the case: writes data and registers, starts, reads back.
-    fn run(&self, case: &RunCase) -> End {
+impl Engine for Unicorn {
+    fn open(case: &RunCase) -> Self {
+        let mut opened = std::ptr::null_mut();
+        // The pointer is to a live variable.
+        expect_done(unsafe { uc_open(ARCHITECTURE_X86, MODE_32, &mut opened) });
+        let engine = Unicorn(opened);
+        engine.map(CODE_BASE, case.code.len(), READ_EXECUTE);
+        engine.map(DATA_BASE, case.data.len(), READ_WRITE);
+        engine.map(HOME, PAGE, READ_EXECUTE);
+        engine.write(CODE_BASE, &case.code);
+        engine
+    }
+
+    fn run(&mut self, case: &RunCase) -> End {
         self.write(DATA_BASE, &case.data);
         for (register, word) in REGISTERS.iter().zip(case.machine.regs) {
             self.set_register(*register, word);
@@ -104,34 +105,9 @@ impl Engine {
     }
 }
 
-impl Drop for Engine {
+impl Drop for Unicorn {
     fn drop(&mut self) {
         // The engine was opened by `open` and is closed once.
         unsafe { uc_close(self.0) };
-    }
-}
-
-/// Unicorn with one engine that is kept from run to run.
-pub struct Kept(Engine);
-
-impl Kept {
-    /// Opens the engine.
-    pub fn new(case: &RunCase) -> Self {
-        Kept(Engine::open(case))
-    }
-}
-
-impl Program for Kept {
-    fn run(&mut self, case: &RunCase) -> End {
-        self.0.run(case)
-    }
-}
-
-/// Unicorn with an engine opened and closed for each run.
-pub struct Fresh;
-
-impl Program for Fresh {
-    fn run(&mut self, case: &RunCase) -> End {
-        Engine::open(case).run(case)
     }
 }

@@ -1,5 +1,7 @@
 //! Random cases: single instructions, whole blocks, refused inputs, broken code and block checks.
 
+mod rooms;
+
 use std::collections::BTreeMap;
 
 use crate::decode::{decode, Address, Instruction, Operand, Operation, Text, PREFIXES};
@@ -52,7 +54,7 @@ struct Form {
 pub enum Size {
     /// Code up to 16 bytes, data up to 64, budgets up to 12; longer only if refused for it, and then all 0.
     Small,
-    /// Data up to a few hundred bytes, blocks of many instructions.
+    /// Data up to a few hundred bytes, blocks of many instructions, code that goes round in more than 64 bytes.
     Large,
 }
 
@@ -132,6 +134,8 @@ impl Generator {
     pub fn next_case(&mut self) -> Case {
         match self.random.below(1000) {
             0..=649 => Case::Run(self.single()),
+            700..=719 if self.size == Size::Large => Case::Run(self.rooms()),
+            720..=729 if self.size == Size::Large => self.rooms_resumed(),
             650..=729 => Case::Run(self.block_run()),
             730..=779 => self.resumed(),
             780..=809 => Case::Run(self.random_bytes()),
@@ -485,6 +489,18 @@ impl Generator {
             }
         }
         let code = self.linked(parts, 3);
+        let mut case = self.with_stack(code, length);
+        case.budget = match (self.size, self.random.below(2000)) {
+            (Size::Small, _) => self.random.below(13) as u64,
+            (_, 0) => MAX_BUDGET,
+            (_, 1..=500) => self.random.below(30) as u64,
+            _ => self.random.below(2000) as u64,
+        };
+        case
+    }
+
+    /// The code with data in which a stack's top holds home, and EBP, ESI and EDI point; no budget yet.
+    fn with_stack(&mut self, code: Vec<u8>, length: usize) -> RunCase {
         let mut machine = self.machine();
         let mut data = self.bytes(length);
         let top = DATA_BASE + length as u32 - 4 * self.random.between(1, 4) as u32;
@@ -494,13 +510,7 @@ impl Generator {
             machine.regs[usize::from(register)] = DATA_BASE + self.random.below(length) as u32;
         }
         machine.regs[usize::from(ECX)] = self.random.below(30) as u32;
-        let budget = match (self.size, self.random.below(2000)) {
-            (Size::Small, _) => self.random.below(13) as u64,
-            (_, 0) => MAX_BUDGET,
-            (_, 1..=500) => self.random.below(30) as u64,
-            _ => self.random.below(2000) as u64,
-        };
-        RunCase { machine, code, data, budget }
+        RunCase { machine, code, data, budget: 0 }
     }
 
     /// A repeated string instruction or a block, stopped by its budget and resumed.
@@ -552,16 +562,19 @@ impl Generator {
 
     /// EIP at home, outside the code, at its ends, or inside an instruction.
     fn odd_eip(&mut self) -> RunCase {
-        let mut case = self.single();
+        let long = self.size == Size::Large && self.random.percent(20);
+        let mut case = if long { self.rooms() } else { self.single() };
         let end = CODE_BASE + case.code.len() as u32;
-        case.machine.eip = match self.random.below(10) {
+        let kinds = if self.size == Size::Small { 10 } else { 20 };
+        case.machine.eip = match self.random.below(kinds) {
             0..=2 => HOME,
             3 => HOME.wrapping_add(self.random.pick(&[1, u32::MAX])),
             4 => end,
             5 => end - 1,
             6 => CODE_BASE - 1,
             7 => self.value(),
-            _ => CODE_BASE + self.random.below(case.code.len() + 1) as u32,
+            8 | 9 => CODE_BASE + self.random.below(case.code.len() + 1) as u32,
+            _ => self.outside(case.code.len()),
         };
         case
     }

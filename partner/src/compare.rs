@@ -47,7 +47,7 @@ fn partner_run(case: &RunCase, coverage: Option<&mut Coverage>) -> RunResult {
         None => run(case.machine, &case.code, &mut data, case.budget),
         Some(coverage) => {
             let outcome = run_observed(case.machine, &case.code, &mut data, case.budget, |seen| coverage.saw(&seen));
-            coverage.ran(&outcome);
+            coverage.ran(&outcome, &case.code);
             outcome
         }
     };

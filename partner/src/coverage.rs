@@ -4,6 +4,7 @@ use std::collections::BTreeMap;
 use std::fmt::{self, Display, Formatter};
 
 use crate::decode::{Instruction, Operation, PREFIXES};
+use crate::machine::{CODE_BASE, HOME, MAX_BYTES};
 use crate::run::{Outcome, Seen};
 use crate::step::Step;
 use crate::text::{form, prefixes};
@@ -15,7 +16,25 @@ struct Count {
     stopped: u64,
 }
 
-/// Finished steps by the shapes of one group.
+/// How often a run must come to a place to have gone round there.
+const OFTEN: u32 = 16;
+
+/// Ways of going round.
+const LOOPS: [&str; 3] =
+    ["a place often", "back after a place equal modulo 64", "back after a place equal modulo 1024"];
+
+/// Places outside the code.
+const OUTSIDE: [&str; 6] =
+    ["0", "FFFFFFFF", "just below the code", "home", "just past the code", "64 KiB past a place of the code"];
+
+/// Which of the places outside the code an address is.
+fn outside(address: u32, length: u32) -> Option<usize> {
+    let places = [0, u32::MAX, CODE_BASE - 1, HOME, CODE_BASE + length];
+    let past = address.wrapping_sub(CODE_BASE + MAX_BYTES as u32) < length;
+    places.iter().position(|&place| place == address).or(past.then_some(places.len()))
+}
+
+/// Finished steps, or runs, by the shapes of one group.
 struct Group {
     title: String,
     shapes: Vec<(String, u64)>,
@@ -57,6 +76,14 @@ struct Course {
     jump: Option<u32>,
     /// A jump was taken to another instruction, which finished.
     jumped: bool,
+    /// The last step's place.
+    at: Option<u32>,
+    /// How often each place was come to.
+    visits: BTreeMap<u32, u32>,
+    /// The last place of each remainder modulo 64.
+    latest: BTreeMap<u32, u32>,
+    /// The ways of going round that were met.
+    loops: [bool; LOOPS.len()],
 }
 
 impl Course {
@@ -68,6 +95,19 @@ impl Course {
         self.jumped |= self.jump.is_some_and(|from| from != seen.eip);
         self.jump = (jumps && next != seen.eip.wrapping_add(length)).then_some(seen.eip);
         self.inside = repeat.is_some() && next == seen.eip;
+        if self.at.replace(seen.eip) != Some(seen.eip) {
+            self.come_to(seen.eip);
+        }
+    }
+
+    /// Comes to a place from another one.
+    fn come_to(&mut self, place: u32) {
+        let visits = self.visits.entry(place).or_default();
+        *visits += 1;
+        let before = self.latest.insert(place % 64, place).filter(|&before| before != place && *visits > 1);
+        self.loops[0] |= *visits >= OFTEN;
+        self.loops[1] |= before.is_some();
+        self.loops[2] |= before.is_some_and(|before| before % 1024 == place % 1024);
     }
 }
 
@@ -84,6 +124,9 @@ pub struct Coverage {
     modrm: Group,
     sib: [Group; 3],
     prefixes: Group,
+    loops: Group,
+    starts: Group,
+    ends: Group,
 }
 
 /// The ModR/M byte and what follows, if it gave memory that was used; LEA finishes with any address.
@@ -109,6 +152,7 @@ impl Coverage {
     pub fn new<'a>(form_names: impl Iterator<Item = &'a str>) -> Self {
         let zero = |numbers: &[u32]| numbers.iter().map(|&number| (number, 0)).collect();
         let modrm = (0..24).map(|place| format!("mod {} r/m {}", place / 8, place % 8));
+        let runs = |title: &str, names: &[&str]| Group::new(title.to_string(), names.iter().map(ToString::to_string));
         let sib = |mode| Group::new(format!("SIB bytes with mod {mode}"), (0..=0xFF).map(|byte| format!("{byte:02X}")));
         Coverage {
             forms: form_names.map(|name| (name.to_string(), Count::default())).collect(),
@@ -121,6 +165,9 @@ impl Coverage {
             modrm: Group::new("ModR/M shapes of memory".to_string(), modrm),
             sib: [0, 1, 2].map(sib),
             prefixes: Group::new("prefix orders".to_string(), PREFIXES.iter().map(prefix_name)),
+            loops: runs("ways of going round", &LOOPS),
+            starts: runs("starts outside the code", &OUTSIDE),
+            ends: runs("ways out of the code", &OUTSIDE),
         }
     }
 
@@ -150,13 +197,20 @@ impl Coverage {
         }
     }
 
-    /// Counts the number and the course of a run.
-    pub fn ran(&mut self, outcome: &Outcome) {
+    /// Counts the number and the course of a run of the code.
+    pub fn ran(&mut self, outcome: &Outcome, code: &[u8]) {
         *self.runs.entry(outcome.number).or_default() += 1;
         let course = std::mem::take(&mut self.course);
         self.inside = course.inside;
         self.resumed += u64::from(course.resumed && outcome.steps > 0);
         self.jumped += u64::from(course.jumped);
+        for (place, _) in course.loops.iter().enumerate().filter(|(_, met)| **met) {
+            self.loops.count(place);
+        }
+        if let (1 | 2, Some(place)) = (outcome.number, outside(outcome.address, code.len() as u32)) {
+            let group = if outcome.steps == 0 { &mut self.starts } else { &mut self.ends };
+            group.count(place);
+        }
     }
 
     /// Notes that the next run goes on from the last one's end.
@@ -176,7 +230,8 @@ impl Coverage {
 
     /// The groups of shapes.
     fn groups(&self) -> impl Iterator<Item = &Group> {
-        [&self.modrm].into_iter().chain(&self.sib).chain([&self.prefixes])
+        let last = [&self.prefixes, &self.loops, &self.starts, &self.ends];
+        [&self.modrm].into_iter().chain(&self.sib).chain(last)
     }
 
     /// Forms that never finished a step, and numbers and courses that never came.

@@ -35,7 +35,7 @@ const NO_MACHINE: &str = "-\t-\t-\t-\t-\t-\t-\t-\t-\t-";
 fn write_run(out: &mut impl Write, case: &RunCase, coverage: &mut Coverage) -> io::Result<RunCase> {
     let mut data = case.data.clone();
     let outcome = run_observed(case.machine, &case.code, &mut data, case.budget, |seen| coverage.saw(&seen));
-    coverage.ran(&outcome);
+    coverage.ran(&outcome, &case.code);
     writeln!(
         out,
         "run\t{}\t{:X}\t{:X}\t{}\t{:X}\t{}\t{:X}\t{:X}\t{:X}\t{}\t{:X}\t{}",

@@ -10,7 +10,7 @@ fn report(code: &[u8], budgets: &[u64]) -> String {
     let mut machine = Machine { regs: [0, 3, 0, 0, 0, 0, DATA_BASE, DATA_BASE], eip: CODE_BASE, flags: ALWAYS };
     for &budget in budgets {
         let outcome = run_observed(machine, code, &mut [0; 8], budget, |seen| coverage.saw(&seen));
-        coverage.ran(&outcome);
+        coverage.ran(&outcome, code);
         coverage.resume();
         machine = outcome.machine;
     }
@@ -54,5 +54,54 @@ fn shapes_never_finished_are_holes() {
         "\n2 of 8 prefix orders, least 0, holes: F3, F2, 66 F3, F3 66, 66 F2, F2 66\n",
     ] {
         assert!(report.contains(line), "no {line:?} in:\n{report}");
+    }
+}
+
+#[test]
+fn ways_of_going_round_are_counted() {
+    let went = |code: &[u8], budget: u64, expected: &str| {
+        let report = report(code, &[budget]);
+        assert!(report.contains(expected), "no {expected:?} in:\n{report}");
+    };
+    let often = "\n1 of 3 ways of going round, least 0, holes: back after a place equal modulo 64, ";
+    // 16 rounds of NOP and a jump back; 15 of them; one place that is never left.
+    went(&[0x90, 0xEB, 0xFD], 31, often);
+    went(&[0x90, 0xEB, 0xFD], 30, "\n0 of 3 ways of going round");
+    went(&[0xEB, 0xFE], 100, "\n0 of 3 ways of going round");
+    // A jump over so many bytes and one back.
+    let far = |bytes: usize| {
+        let mut code = vec![0x90; bytes];
+        code[..5].copy_from_slice(&[[0xE9].as_slice(), &(bytes as u32 - 5).to_le_bytes()].concat());
+        code.extend([[0xE9].as_slice(), &(-(bytes as i32) - 5).to_le_bytes()].concat());
+        code
+    };
+    went(&far(64), 2, "\n0 of 3 ways of going round");
+    let back = "\n1 of 3 ways of going round, least 0, holes: a place often, back after a place equal modulo 1024\n";
+    went(&far(64), 3, back);
+    went(&far(65), 3, "\n0 of 3 ways of going round");
+    went(&far(2048), 3, "\n2 of 3 ways of going round, least 0, holes: a place often\n");
+}
+
+#[test]
+fn places_outside_the_code_are_counted() {
+    // The code is 2 bytes long and jumps to EDI.
+    for (place, name) in [
+        (0, "0"),
+        (0xFFFF_FFFF, "FFFFFFFF"),
+        (CODE_BASE - 1, "just below the code"),
+        (0xFFFF_0000, "home"),
+        (CODE_BASE + 2, "just past the code"),
+        (CODE_BASE + 0x1_0001, "64 KiB past a place of the code"),
+    ] {
+        for (eip, title) in [(place, "starts outside the code"), (CODE_BASE, "ways out of the code")] {
+            let mut coverage = Coverage::new(std::iter::empty());
+            let machine = Machine { regs: [0, 0, 0, 0, 0, 0, 0, place], eip, flags: ALWAYS };
+            let outcome = run_observed(machine, &[0xFF, 0xE7], &mut [], 2, |seen| coverage.saw(&seen));
+            coverage.ran(&outcome, &[0xFF, 0xE7]);
+            let report = coverage.to_string();
+            let line = report.lines().find(|line| line.contains(title)).expect("the group has a line");
+            let (found, holes) = line.split_once(", holes: ").expect("the other places are holes");
+            assert!(found.starts_with("1 of 6 ") && !holes.split(", ").any(|hole| hole == name), "{line}");
+        }
     }
 }
