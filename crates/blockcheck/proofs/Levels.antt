@@ -69,9 +69,8 @@ module _ {code starts marks : List ℕ} (coded : Coded code starts marks) where
   pub coded-long : length marks ≡ length code
   coded-long = sym (levelled-length marks) ∙ ap length (coded .level) ∙ marked-length (length code) starts
 
-  -- one start more, by its instruction
   module _ (at : ℕ) (d : Decoded) (h : at < length code) (found : decodeOf code at ≡ Found.Instruction d) where
-    -- each mark is still its instruction's
+    -- with one start more, each mark is its instruction's
     told-more : (i : ℕ) → Dec (i ≡ at) → List·Memᴰ i (starts ++ (at ∷ [])) → (x : Decoded) → decodeOf code i ≡ Found.Instruction x
         → getD (set marks at (markOf (relativeOf d))) i 0 ≡ markOf (relativeOf x)
     told-more i (yes same) m x e =
@@ -79,6 +78,7 @@ module _ {code starts marks : List ℕ} (coded : Coded code starts marks) where
         rw (same, is) (getD-set-same marks at (markOf (relativeOf d)) 0 (omega (arith, coded-long)))
     told-more i (no other) m x e = getD-set-other marks at i (markOf (relativeOf d)) 0 other ∙ coded .told i (earlier starts m other) x e
 
+    -- one start more, marked by its instruction
     pub coded-more : Coded code (starts ++ (at ∷ [])) (set marks at (markOf (relativeOf d)))
     coded-more =
         record {
