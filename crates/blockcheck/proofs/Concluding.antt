@@ -4,21 +4,21 @@ use mathlib.Core.List.{List}
 use Prim.Native.Nat.{ℕ, _<_, _≤_}
 use native.Mathlib.Omega.{arith}
 use lib.ListN.{length, replicate}
-use Rattle.blockcheck.specs.Blocks.{Sized, startsFrom, cut-at, unknown-at, astray-at, accepted}
-use Rattle.blockcheck.specs.Passes.{Divided, Whole, Sought, Concluded}
+use Rattle.blockcheck.specs.Blocks.{Sized, cut-at, unknown-at, astray-at, accepted}
+use Rattle.blockcheck.specs.Passes.{levelled, Divided, Whole, Sought, Concluded}
 use Rattle.blockcheck.specs.Passes as passes
 use Rattle.blockcheck.specs.declared.Verdict.{Verdict}
 use Rattle.blockcheck.specs.declared.dividing.Extent.{Extent}
 use Rattle.blockcheck.proofs.Cuts.{cut-unique}
-use Rattle.blockcheck.proofs.Marking.{marked-length, marked-shows}
+use Rattle.blockcheck.proofs.Levels.{coded-long}
 
--- the code is cut whole, and the marks show its starts
+-- the code is cut whole, and the marks are those between the passes
 pub divided-whole : {code marks : List ℕ} {count : ℕ} → Divided code (Extent.Whole count) marks → Whole code marks
-divided-whole (passes.whole {pieces} cut) = record { pieces = pieces; cut = cut; shows = marked-shows cut }
+divided-whole (passes.whole {pieces} cut coded) = record { pieces = pieces; cut = cut; coded = coded }
 
 -- there are as many marks as bytes
 pub divided-long : {code marks : List ℕ} {extent : Extent} → Divided code extent marks → length marks ≡ length code
-divided-long {code} (passes.whole {pieces} cut) = marked-length (length code) (startsFrom 0 pieces)
+divided-long (passes.whole cut coded) = coded-long coded
 divided-long (passes.cut-at reached long some prefix) = long
 divided-long (passes.unknown-at reached long begins prefix) = long
 
@@ -48,8 +48,9 @@ concluded-astray sized divided none (passes.all-good cut good) h other same = ab
 concluded-astray sized divided none (passes.astray-at cut inside astray) h other same = rw (zeros (divided-long divided) none) (astray-at sized same cut astray)
 
 -- all is good
-pub concluded-good : {code marks : List ℕ} {count i : ℕ} → Sized code → Divided code (Extent.Whole count) marks → Sought code i → length code ≤ i
-    → Concluded code (Verdict.Accepted count) marks
+pub concluded-good : {code marks after : List ℕ} {count i : ℕ} → Sized code → Divided code (Extent.Whole count) marks → after ≡ levelled marks
+    → Sought code i → length code ≤ i → Concluded code (Verdict.Accepted count) after
 unfolding Concluded
-concluded-good sized (passes.whole whole) (passes.all-good cut good) h other same = rw (cut-unique whole cut) (accepted sized same cut good)
-concluded-good sized (passes.whole whole) (passes.astray-at cut inside astray) h other same = absurd (omega arith)
+concluded-good sized (passes.whole whole coded) level (passes.all-good cut good) h other same =
+    rw (level ∙ coded .level, cut-unique whole cut) (accepted sized same cut good)
+concluded-good sized (passes.whole whole coded) level (passes.astray-at cut inside astray) h other same = absurd (omega arith)

@@ -53,7 +53,7 @@ pub cut-unique : {xs ys : List (List ℕ)} {code : List ℕ} → Cut xs code →
 cut-unique p q = same-reach p q [] [] refl nothing-begins nothing-begins .0
 
 -- where an instruction stands, bytes are
-pub not-empty : {bytes : List ℕ} → Instruction bytes → (code : List ℕ) → bytes ++ code ≡ [] → ⊥
+not-empty : {bytes : List ℕ} → Instruction bytes → (code : List ℕ) → bytes ++ code ≡ [] → ⊥
 not-empty i code e = omega (arith, instruction-some i, simp length-append at (ap length e))
 
 module _ (starts : List ℕ) where

@@ -1,5 +1,5 @@
 -- Cutting the code from its front, and marking each start: what is cut so far. Assumes nothing.
-use mathlib.Core.Path.{_≡_, refl, ap, _∙_}
+use mathlib.Core.Path.{_≡_, refl}
 use mathlib.Core.List.{List, [], _∷_, _++_, append-assoc, append-nil}
 use Prim.Native.Nat.{ℕ, _+_, _<_, _≤_}
 use native.Mathlib.Omega.{arith}
@@ -8,13 +8,15 @@ use lib.Seq.{length-take-le, take-add, take-all}
 use Rattle.grammar.specs.Grammar.{Instruction, Cut, done, next}
 use Rattle.grammar.specs.Answers.{Begins, Prefix, Answers, cut, unknown}
 use Rattle.grammar.specs.Decoding.{decodeOf}
+use Rattle.grammar.specs.Relative.{relativeOf}
 use Rattle.grammar.specs.declared.instruction.Decoded.{Decoded}
 use Rattle.grammar.specs.declared.instruction.Found.{Found}
 use Rattle.grammar.proofs.Answered.{decode-answers, found-standing, found-inside}
-use Rattle.blockcheck.specs.Blocks.{startsFrom, marked, Reached}
-use Rattle.blockcheck.specs.Passes.{Divided, whole, cut-at, unknown-at}
+use Rattle.blockcheck.specs.Blocks.{startsFrom, Reached}
+use Rattle.blockcheck.specs.Passes.{markOf, Coded, Divided, whole, cut-at, unknown-at}
 use Rattle.blockcheck.specs.declared.dividing.Extent.{Extent}
-use Rattle.blockcheck.proofs.Marking.{marked-length, marked-more, starts-append}
+use Rattle.blockcheck.proofs.Marking.{starts-append}
+use Rattle.blockcheck.proofs.Levels.{coded-none, coded-long, coded-more}
 
 -- the code before a place is cut into so many instructions, and their starts are marked
 pub record Dividing (code marks : List ℕ) (at count : ℕ) : Type 0 where
@@ -23,12 +25,13 @@ pub record Dividing (code marks : List ℕ) (at count : ℕ) : Type 0 where
   pub inside : at ≤ length code
   pub few : count ≤ at
   pub counted : length pieces ≡ count
-  pub shown : marks ≡ marked (length code) (startsFrom 0 pieces)
+  pub coded : Coded code (startsFrom 0 pieces) marks
 
 -- nothing is cut yet
 pub begins : (code : List ℕ) → Dividing code (replicate (length code) 0) 0 0
-unfolding marked startsFrom
-begins code = record { pieces = []; before = done; inside = omega arith; few = omega arith; counted = refl; shown = refl }
+unfolding startsFrom
+begins code =
+    record { pieces = []; before = done; inside = omega arith; few = omega arith; counted = refl; coded = coded-none code }
 
 -- one piece more
 cut-more : {pieces : List (List ℕ)} {before bytes : List ℕ} → Cut pieces before → Instruction bytes → Cut (pieces ++ (bytes ∷ [])) (before ++ bytes)
@@ -37,7 +40,7 @@ cut-more (next j later) i = rw append-assoc (next j (cut-more later i))
 
 -- the instruction found at the place is cut, and its start marked
 pub goes : {code marks : List ℕ} {at count : ℕ} (d : Decoded) → Dividing code marks at count → decodeOf code at ≡ Found.Instruction d
-    → Dividing code (set marks at 1) (at + d .length) (count + 1)
+    → Dividing code (set marks at (markOf (relativeOf d))) (at + d .length) (count + 1)
 unfolding startsFrom
 goes {code} {at} d so e =
     let stands = found-standing code at d e in
@@ -48,14 +51,11 @@ goes {code} {at} d so e =
       inside = found-inside code at d e;
       few = omega (arith, so .few, stands .some);
       counted = simp length-append (omega (arith, so .counted));
-      shown =
+      coded =
           let place : 0 + length (take at code) ≡ at = omega arith in
-          rw (starts-append (take (d .length) (drop at code) ∷ []) 0 (so .before), place, marked-more, ← so .shown);
+          let h : at < length code = omega (arith, stands .some, found-inside code at d e) in
+          rw (starts-append (take (d .length) (drop at code) ∷ []) 0 (so .before), place) (coded-more (so .coded) at d h e);
     }
-
--- there are as many marks as bytes
-pub as-long : {code marks : List ℕ} {at count : ℕ} → Dividing code marks at count → length marks ≡ length code
-as-long {code} so = ap length (so .shown) ∙ marked-length (length code) (startsFrom 0 (so .pieces))
 
 -- cutting comes as far as the place
 abbrev reached : {code marks : List ℕ} {at count : ℕ} → Dividing code marks at count → Reached code (drop at code)
@@ -66,7 +66,7 @@ pub ends : {code marks : List ℕ} {at count : ℕ} → Dividing code marks at c
 ends {code} {at} so h =
     let all : take at code ≡ code = take-all at code h in
     let c : Cut (so .pieces) code = rw all at (so .before) in
-    rw (← so .counted, so .shown) (whole c)
+    rw (← so .counted) (whole c (so .coded))
 
 -- where a cut instruction is found, the bytes are its prefix
 pub prefix-of : {bytes : List ℕ} → Answers bytes Found.Cut → Prefix bytes
@@ -78,7 +78,7 @@ pub cuts : {code marks : List ℕ} {at count : ℕ} → Dividing code marks at c
 cuts {code} {marks} {at} so h e =
     let here : length (take at code) ≡ at = length-take-le at code (so .inside) in
     let p = prefix-of (rw e at (decode-answers code at)) in
-    let is : Divided code (Extent.CutAt (length (take at code))) marks = cut-at (reached so) (as-long so) (simp length-drop (omega arith)) p in
+    let is : Divided code (Extent.CutAt (length (take at code))) marks = cut-at (reached so) (coded-long (so .coded)) (simp length-drop (omega arith)) p in
     rw here at is
 
 -- where nothing is found, the bytes neither begin with an instruction nor are a prefix of one
@@ -91,5 +91,5 @@ pub stops : {code marks : List ℕ} {at count : ℕ} → Dividing code marks at 
 stops {code} {marks} {at} so e =
     let here : length (take at code) ≡ at = length-take-le at code (so .inside) in
     let (b, p) = unknown-of (rw e at (decode-answers code at)) in
-    let is : Divided code (Extent.UnknownAt (length (take at code))) marks = unknown-at (reached so) (as-long so) b p in
+    let is : Divided code (Extent.UnknownAt (length (take at code))) marks = unknown-at (reached so) (coded-long (so .coded)) b p in
     rw here at is

@@ -10,7 +10,6 @@ use lib.Seq.{set-comm, getD-set-same, getD-set-other, take-suc-set}
 use Rattle.grammar.specs.Grammar.{Cut, done, next}
 use Rattle.grammar.proofs.Answered.{instruction-some}
 use Rattle.blockcheck.specs.Blocks.{startsFrom, marked}
-use Rattle.blockcheck.specs.Passes.{Shows}
 
 -- there are so many marks
 pub marked-length : (n : ℕ) (starts : List ℕ) → length (marked n starts) ≡ n
@@ -42,7 +41,7 @@ starts-append ys i (next {bytes} {code} instruction later) =
     ap (λ (l : List ℕ). i ∷ l) (rw (length-append, ← e) (starts-append ys (i + length bytes) later))
 
 -- every start lies inside the code
-starts-inside : {pieces : List (List ℕ)} {code : List ℕ} {s : ℕ} (i : ℕ) → Cut pieces code → List·Memᴰ s (startsFrom i pieces) → s < i + length code
+pub starts-inside : {pieces : List (List ℕ)} {code : List ℕ} {s : ℕ} (i : ℕ) → Cut pieces code → List·Memᴰ s (startsFrom i pieces) → s < i + length code
 unfolding startsFrom
 starts-inside i done m = absurd (List·Memᴰ·not-nil m)
 starts-inside i (next instruction later) (List·Memᴰ·head e) = simp length-append (omega (arith, instruction-some instruction))
@@ -57,7 +56,7 @@ cleared (suc n) zero = refl
 cleared (suc n) (suc i) = cleared n i
 
 -- a mark of 1 is at a start
-marked-start : (n : ℕ) (starts : List ℕ) (i : ℕ) → getD (marked n starts) i 0 ≡ 1 → List·Memᴰ i starts
+pub marked-start : (n : ℕ) (starts : List ℕ) (i : ℕ) → getD (marked n starts) i 0 ≡ 1 → List·Memᴰ i starts
 unfolding marked
 marked-start n [] i e = absurd (omega (arith, cleared n i))
 marked-start n (s ∷ starts) i e = go (ℕ-discrete i s) (λ k. marked-start n starts i (sym (getD-set-other (marked n starts) s i 1 0 k) ∙ e))
@@ -66,25 +65,23 @@ marked-start n (s ∷ starts) i e = go (ℕ-discrete i s) (λ k. marked-start n 
     go (yes h) later = List·Memᴰ·head h
     go (no h) later = List·Memᴰ·tail (later h)
 
--- at a start the mark is 1
-start-marked : (n : ℕ) (starts : List ℕ) (i : ℕ) → i < n → List·Memᴰ i starts → getD (marked n starts) i 0 ≡ 1
+-- at a start inside the code the mark is 1
+one-marked : (n : ℕ) (starts : List ℕ) (i : ℕ) → i < n → List·Memᴰ i starts → getD (marked n starts) i 0 ≡ 1
 unfolding marked
-start-marked n [] i h m = absurd (List·Memᴰ·not-nil m)
-start-marked n (s ∷ starts) i h (List·Memᴰ·head e) =
+one-marked n [] i h m = absurd (List·Memᴰ·not-nil m)
+one-marked n (s ∷ starts) i h (List·Memᴰ·head e) =
     rw e (getD-set-same (marked n starts) s 1 0 (omega (arith, marked-length n starts)))
-start-marked n (s ∷ starts) i h (List·Memᴰ·tail m) = go (ℕ-discrete i s) (start-marked n starts i h m)
+one-marked n (s ∷ starts) i h (List·Memᴰ·tail m) = go (ℕ-discrete i s) (one-marked n starts i h m)
   where
     go : Dec (i ≡ s) → getD (marked n starts) i 0 ≡ 1 → getD (set (marked n starts) s 1) i 0 ≡ 1
     go (yes e) later = rw e (getD-set-same (marked n starts) s 1 0 (omega (arith, marked-length n starts)))
     go (no k) later = getD-set-other (marked n starts) s i 1 0 k ∙ later
 
--- the marks of a cut show its starts
-pub marked-shows : {pieces : List (List ℕ)} {code : List ℕ} → Cut pieces code → Shows (marked (length code) (startsFrom 0 pieces)) (startsFrom 0 pieces)
-marked-shows {pieces} {code} cut =
-    record {
-      start = λ i e. marked-start (length code) (startsFrom 0 pieces) i e;
-      one = λ i m. start-marked (length code) (startsFrom 0 pieces) i (let h = starts-inside 0 cut m in omega arith) m;
-    }
+-- at a start of a cut the mark is 1
+pub start-marked : {pieces : List (List ℕ)} {code : List ℕ} → Cut pieces code → (i : ℕ) → List·Memᴰ i (startsFrom 0 pieces)
+    → getD (marked (length code) (startsFrom 0 pieces)) i 0 ≡ 1
+start-marked {pieces} {code} cut i m =
+    one-marked (length code) (startsFrom 0 pieces) i (let h = starts-inside 0 cut m in omega arith) m
 
 -- one mark more is cleared
 pub cleared-more : (marks : List ℕ) (i : ℕ) → i < length marks → take i marks ≡ replicate i 0 → take (i + 1) (set marks i 0) ≡ replicate (i + 1) 0

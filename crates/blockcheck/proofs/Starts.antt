@@ -17,7 +17,7 @@ use Rattle.grammar.proofs.Answered.{found-inside, instruction-found}
 use Rattle.blockcheck.specs.Blocks.{startsFrom, codeBase, targetOf, Lands, Arrives, Lawful, Good, Judged, accepted}
 use Rattle.blockcheck.specs.Starts.{Start, Acceptable}
 use Rattle.blockcheck.proofs.Cuts.{same-length, cut-unique, good-of}
-use Rattle.blockcheck.proofs.Marking.{marked-shows}
+use Rattle.blockcheck.proofs.Marking.{marked-start, start-marked}
 use Rattle.blockcheck.proofs.Seeking.{landed}
 
 -- a cut's first instruction begins where the code does
@@ -114,7 +114,7 @@ zero-is-start a =
 -- of accepted code the marks are 1 exactly at the starts
 pub marks-at-starts : {code marks after : List ℕ} {count : ℕ} → Judged code marks 0 count after → (i : ℕ)
     → (getD after i 0 ≡ 1) ↔ Start code i
-marks-at-starts (accepted s l {pieces} cut good) i = (
-  λ e. record { pieces = pieces; cut = cut; among = marked-shows cut .start i e },
-  λ start. marked-shows cut .one i (rw (cut-unique (start .cut) cut) at (start .among)),
+marks-at-starts {code} (accepted s l {pieces} cut good) i = (
+  λ e. record { pieces = pieces; cut = cut; among = marked-start (length code) (startsFrom 0 pieces) i e },
+  λ start. start-marked cut i (rw (cut-unique (start .cut) cut) at (start .among)),
 )

@@ -1,9 +1,13 @@
 // The pass that cuts the code into instructions and marks their starts.
+use grammar::instruction::Decoded;
 use grammar::instruction::Found;
 use grammar::reader::read;
+use grammar::relative::Relative;
+use grammar::relative::relative_of;
 ghost use mathlib.Core.Path.{_≡_};
 ghost use lib.ListN.{length, replicate};
-ghost use Rattle.blockcheck.specs.Passes.{Divided};
+ghost use Rattle.grammar.specs.Relative.{relativeOf};
+ghost use Rattle.blockcheck.specs.Passes.{markOf, Divided};
 
 // How far the code can be cut.
 pub enum Extent {
@@ -13,6 +17,16 @@ pub enum Extent {
     CutAt(usize),
     // No instruction begins here.
     UnknownAt(usize),
+}
+
+// The mark of an instruction's start: 2 where a displacement is left to look at.
+fn mark_of(d: Decoded) -> u8
+    ensures { λ r. ⌜ r ≡ markOf (relativeOf d) ⌝ }
+{
+    match relative_of(d) {
+        Relative::Absent => 1,
+        Relative::By(_) => 2,
+    }
 }
 
 // Cuts the code, and marks each start on cleared marks.
@@ -25,7 +39,7 @@ pub fn divide(code: &[u8], marks: &mut [u8]) -> Extent
     while at < code.len() {
         match read(code, at) {
             Found::Instruction(d) => {
-                marks[at] = 1;
+                marks[at] = mark_of(d);
                 at += d.length;
                 count += 1;
             }

@@ -7,9 +7,10 @@ use grammar::relative::relative_of;
 ghost use mathlib.Core.Path.{_≡_};
 ghost use mathlib.Core.List.{List};
 ghost use Prim.Native.Nat.{ℕ, _+_, _<_, _^_};
+ghost use lib.ListN.{length};
 ghost use Rattle.grammar.specs.Relative.{relativeOf};
 ghost use Rattle.blockcheck.specs.Blocks.{targetOf, Lands, Arrives};
-ghost use Rattle.blockcheck.specs.Passes.{Tells, Shows, Passes, Whole, Sought};
+ghost use Rattle.blockcheck.specs.Passes.{Tells, Shows, Whole, Looks, Sought};
 
 // The address that a displacement leads to, from an instruction's offset and length.
 fn leads_to(at: usize, size: usize, displacement: u32) -> u32
@@ -31,7 +32,7 @@ fn lands(marks: &[u8], address: u32) -> bool
         return false;
     }
     let mark = marks[i];
-    mark == 1
+    mark != 0
 }
 
 // Whether an instruction's displacement, if it has one, leads to a marked start.
@@ -45,19 +46,19 @@ fn arrives(marks: &[u8], at: usize, d: Decoded) -> bool
     }
 }
 
-// The length of the instruction here, or 0 where its displacement leads to no marked start.
-fn pass(code: &[u8], marks: &[u8], at: usize) -> usize
-    ensures { λ r. ⌜ Passes (now (code .entry)) (now (marks .entry)) at r ⌝ }
+// Whether nothing goes astray here: the mark tells of no displacement, or it leads to a marked start.
+fn looks_well(code: &[u8], marks: &[u8], at: usize) -> bool
+    requires { ⌜ at < length (now marks) ⌝ }
+    ensures { λ r. ⌜ Looks (now (code .entry)) (now (marks .entry)) at r ⌝ }
 {
+    let mark = marks[at];
+    if mark != 2 {
+        return true;
+    }
     match read(code, at) {
-        Found::Instruction(d) => {
-            if arrives(marks, at, d) {
-                return d.length;
-            }
-            0
-        }
-        Found::Cut => 0,
-        Found::Unknown => 0,
+        Found::Instruction(d) => arrives(marks, at, d),
+        Found::Cut => true,
+        Found::Unknown => true,
     }
 }
 
@@ -68,11 +69,10 @@ pub fn first_astray(code: &[u8], marks: &[u8]) -> usize
 {
     let mut at = 0;
     while at < code.len() {
-        let size = pass(code, marks, at);
-        if size == 0 {
+        if !looks_well(code, marks, at) {
             return at;
         }
-        at += size;
+        at += 1;
     }
     at
 }

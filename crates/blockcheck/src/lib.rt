@@ -7,6 +7,7 @@ use crate::dividing::Extent;
 use crate::dividing::divide;
 use crate::landing::first_astray;
 use crate::marks::clear;
+use crate::marks::level;
 ghost use mathlib.Core.Path.{_≡_};
 ghost use lib.ListN.{length};
 ghost use Rattle.blockcheck.specs.Blocks.{numberOf, valueOf, Sized, Judged};
@@ -38,6 +39,7 @@ fn conclude(code: &[u8], marks: &mut [u8], count: usize) -> Verdict
         clear(marks);
         return Verdict::AstrayAt(i);
     }
+    level(marks);
     Verdict::Accepted(count)
 }
 

@@ -14,10 +14,17 @@ returns c =
 
 returns-2 : tie.Need-returns-2
 returns-2 c =
-    let given = c .before .before .before .before .before .pre in
-    concluded-good (given .0) (given .1) (c .before .first-astray .ensures) (c .if1 .left)
+    let given = c .before .before .before .before .before .before .before .before .before .pre in
+    concluded-good (given .0) (given .1) (c .before .before .level .ensures) (c .before .before .before .before .before .first-astray .ensures) (c .before .before .before .before .if1 .left)
 
 pub conclude-spec : {M : Type 1} → statement M
 conclude-spec =
     tie.close
-    (tie.spec first-astray-requires (λ c κs. search needs) (λ c. search needs) returns (λ c. search needs) returns-2)
+    (tie.spec
+    first-astray-requires
+    (λ c κs. search needs)
+    (λ c. search needs)
+    returns
+    (λ c κs. search needs)
+    (λ c. search needs)
+    returns-2)

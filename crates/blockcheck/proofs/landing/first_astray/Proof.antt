@@ -1,10 +1,10 @@
--- `blockcheck::landing::first_astray` meets its contract: what is found from `at` on is found of the whole. Assumes nothing.
-use mathlib.Core.Logic.{⊎-elim}
+-- `blockcheck::landing::first_astray` meets its contract: the starts before `at` are fine. Assumes nothing.
 use Prim.Native.Nat.{_-_}
 use native.Mathlib.Omega.{arith}
 use lib.ListN.{length}
 use borrow.Author.Needs.{needs}
-use Rattle.blockcheck.proofs.Seeking.{Seeking, Looked, begins, looks, ends}
+use borrow.Author.Tests.{not-true, not-false}
+use Rattle.blockcheck.proofs.Seeking.{Seeking, begins, as-long, goes, stops, ends}
 use Rattle.blockcheck.proofs.landing.first_astray.Statement.{statement}
 use Rattle.blockcheck.proofs.landing.first_astray.Tie as tie
 
@@ -17,25 +17,20 @@ abbrev μ-loop : tie.MeasureT-loop
 loop-holds : tie.Need-loop-holds Inv-loop μ-loop
 loop-holds c = begins (c .before .before .pre)
 
-pass-requires : tie.Need-pass-requires Inv-loop μ-loop
-pass-requires c κs = search needs
-
--- what the look at the next instruction gives
-looked : (c : tie.After-pass Inv-loop μ-loop)
-    → Looked (c .before .before .before .before .before .args .code .now) (c .before .before .before .before .before .args .marks .now) (c .before .before .loop .at) (c .pass .result)
-looked c = looks (c .pass .result) (c .before .before .loop .inv) (c .before .loop-test .taken) (c .pass .ensures)
+looks-well-requires : tie.Need-looks-well-requires Inv-loop μ-loop
+looks-well-requires c κs = omega (arith, as-long (c .before .loop .inv))
 
 returns : tie.Need-returns Inv-loop μ-loop
-returns c = ⊎-elim (λ w. absurd (omega (arith, c .if1 .taken))) (λ w. w .1) (looked (c .before))
+returns c = stops (c .before .before .before .loop .inv) (c .before .before .loop-test .taken) (rw (not-true (c .before .looks-well .result) (c .if1 .taken)) at (c .before .looks-well .ensures))
 
 add-at : tie.Need-add-at Inv-loop μ-loop
-add-at c = ⊎-elim (λ w. omega (arith, w .1 .inside)) (λ w. absurd (c .if1 .left (w .0))) (looked (c .before))
+add-at c = search needs
 
 loop-less : tie.Need-loop-less Inv-loop μ-loop
-loop-less c = ⊎-elim (λ w. omega (arith, w .1 .inside)) (λ w. absurd (c .if1 .left (w .0))) (looked (c .before))
+loop-less c = search needs
 
 loop-again : tie.Need-loop-again Inv-loop μ-loop
-loop-again c = ⊎-elim (λ w. w .1) (λ w. absurd (c .if1 .left (w .0))) (looked (c .before))
+loop-again c = goes (c .before .before .before .loop .inv) (c .before .before .loop-test .taken) (rw (not-false (c .before .looks-well .result) (c .if1 .left)) at (c .before .looks-well .ensures))
 
 returns-2 : tie.Need-returns-2 Inv-loop μ-loop
 returns-2 c = ends (c .before .loop .inv) (c .loop-test .left)
@@ -47,7 +42,7 @@ first-astray-spec =
     Inv-loop
     μ-loop
     loop-holds
-    pass-requires
+    looks-well-requires
     returns
     add-at
     loop-less
