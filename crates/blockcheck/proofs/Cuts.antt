@@ -2,7 +2,7 @@
 use mathlib.Core.Path.{_≡_, refl, ap, sym, _∙_}
 use mathlib.Core.Logic.{inl, inr}
 use mathlib.Core.List.{List, [], _++_, append-assoc}
-use Prim.Native.Nat.{ℕ, _+_}
+use Prim.Native.Nat.{ℕ, _+_, _≤_}
 use native.Mathlib.Omega.{arith}
 use lib.ListN.{length, length-append}
 use Rattle.grammar.specs.Grammar.{Instruction, Cut, done, next}
@@ -113,3 +113,17 @@ good-of {xs} p q g = rw (cut-unique p q) at (good-same (startsFrom 0 xs) p q ref
 pub astray-of : {xs ys : List (List ℕ)} {code : List ℕ} (k : ℕ) (p : Cut xs code) (q : Cut ys code) → Astray (startsFrom 0 xs) 0 p k
     → Astray (startsFrom 0 ys) 0 q k
 astray-of {xs} k p q a = rw (cut-unique p q) at (astray-same (startsFrom 0 xs) k p q refl refl a)
+
+-- a cut has no more instructions than bytes
+pub pieces-within : {pieces : List (List ℕ)} {code : List ℕ} → Cut pieces code → length pieces ≤ length code
+pieces-within done = omega arith
+pieces-within (next first later) = simp length-append (omega (arith, instruction-some first, pieces-within later))
+
+-- what goes astray stands inside the code
+pub astray-within : (starts : List ℕ) (i k : ℕ) {pieces : List (List ℕ)} {code : List ℕ} (cut : Cut pieces code) → Astray starts i cut k → k ≤ i + length code
+unfolding Astray
+astray-within starts i k done a = absurd a
+astray-within starts i k (next first later) (inl (wrong, here)) = omega arith
+astray-within starts i k (next {bytes} first later) (inr (lawful, after)) =
+    let h = astray-within starts (i + length bytes) k later after in
+    simp length-append (omega arith)

@@ -9,13 +9,14 @@ use lib.Dec.{ltb}
 use lib.ListN.{length, take, drop, length-append}
 use borrow.Author.Tests.{lt-ltb}
 use Rattle.grammar.specs.Choice.{pick}
-use Rattle.grammar.specs.Grammar.{prefixBytes, Opcode, alone, after0F, opcodeByte, opcodeBytes, opcodeNumber, operandBytes, Parts, bytesOf, Built, Instruction, Cut, done, next}
+use Rattle.grammar.specs.Grammar.{prefixBytes, Opcode, alone, after0F, opcodeByte, opcodeBytes, opcodeNumber, operandBytes, Parts, bytesOf, Built}
 use Rattle.grammar.specs.Answers.{numbers}
 use Rattle.grammar.specs.Decoding.{decodeOf}
 use Rattle.grammar.specs.declared.instruction.Decoded.{Decoded}
 use Rattle.grammar.specs.declared.instruction.Found.{Found}
-use Rattle.grammar.proofs.Answered.{Standing, found-standing, found-inside, instruction-some}
-use Rattle.blockcheck.specs.Blocks.{Astray, Reached, Judged, bad-length, bad-marks, cut-at, unknown-at, astray-at, accepted}
+use Rattle.grammar.proofs.Answered.{Standing, found-standing, found-inside}
+use Rattle.blockcheck.proofs.Cuts.{pieces-within, astray-within}
+use Rattle.blockcheck.specs.Blocks.{Reached, Judged, bad-length, bad-marks, cut-at, unknown-at, astray-at, accepted}
 use Rattle.text.specs.Ascii.{ascii}
 use Rattle.text.specs.Digits.{hexadecimal}
 use Rattle.text.proofs.Writing.{within, wrote-whole}
@@ -89,18 +90,6 @@ lines-short code (suc n) i most = go (decodeOf code i) refl (λ k. lines-short c
     go Found.Cut e later = unfold lineThen in omega arith
     go Found.Unknown e later = unfold lineThen in omega arith
 
--- a cut has no more instructions than bytes
-pieces-few : {pieces : List (List ℕ)} {code : List ℕ} → Cut pieces code → length pieces ≤ length code
-pieces-few done = omega arith
-pieces-few (next instruction later) = rw length-append (omega (arith, instruction-some instruction, pieces-few later))
-
--- an instruction that goes astray stands inside the code
-astray-inside : (starts : List ℕ) (i k : ℕ) {pieces : List (List ℕ)} {code : List ℕ} (cut : Cut pieces code) → Astray starts i cut k → k ≤ i + length code
-unfolding Astray
-astray-inside starts i k (next {bytes} {code} instruction later) a =
-    rw length-append
-    (⊎-elim (λ here. omega (arith, here .1)) (λ behind. omega (arith, astray-inside starts (i + length bytes) k later (behind .1))) a)
-
 -- what is cut before the rest is no longer than the code
 before-inside : {code rest : List ℕ} (r : Reached code rest) → length (r .before) ≤ length code
 before-inside r = omega (arith, simp length-append at (ap length (r .joined)))
@@ -121,10 +110,10 @@ text-short (cut-at s l r some prefix) =
 text-short (unknown-at s l r begins prefix) =
     rw length-append (omega (arith, refusal-short 22 (length (r .before)) (omega arith) (omega (arith, before-inside r, s .most))))
 text-short (astray-at s l cut {i} astray) =
-    rw length-append (omega (arith, refusal-short 23 i (omega arith) (omega (arith, astray-inside _ 0 i cut astray, s .most))))
+    rw length-append (omega (arith, refusal-short 23 i (omega arith) (omega (arith, astray-within _ 0 i cut astray, s .most))))
 text-short {code} (accepted s l {pieces} cut good) =
     simp length-append
-    (omega (arith, lines-short code (length pieces) 0 (s .most), field-short (length pieces) newline (omega (arith, pieces-few cut, s .most)), s .most))
+    (omega (arith, lines-short code (length pieces) 0 (s .most), field-short (length pieces) newline (omega (arith, pieces-within cut, s .most)), s .most))
 
 -- a buffer as long as the longest holds the whole text, up to the place given
 pub listed-whole : {code marks out marksAfter outAfter : List ℕ} {next : ℕ} (l : Listed code marks out next marksAfter outAfter)

@@ -1,18 +1,16 @@
 -- What a call hands back fits its words: the steps of a run, and the count or the offset of a check. Assumes nothing.
 use mathlib.Core.Path.{_≡_, refl, ap}
 use mathlib.Core.Bool.{Bool, true, false, cond, not, _||_}
-use mathlib.Core.Logic.{inl, inr}
 use mathlib.Core.List.{List}
 use Prim.Native.Nat.{ℕ, zero, suc, _+_, _^_, _<_, _≤_}
 use native.Mathlib.Omega.{arith}
 use lib.Dec.{ltb, eqb}
 use lib.ListN.{length, length-append}
 use borrow.Author.Tests.{eqb-true, ltb-false}
-use Rattle.grammar.specs.Grammar.{Cut, done, next}
-use Rattle.grammar.proofs.Answered.{instruction-some}
 use Rattle.flags.specs.Word.{passes}
 use Rattle.machine.specs.declared.registers.Machine.{Machine}
-use Rattle.blockcheck.specs.Blocks.{Astray, Judged, bad-length, bad-marks, cut-at, unknown-at, astray-at, accepted}
+use Rattle.blockcheck.proofs.Cuts.{pieces-within, astray-within}
+use Rattle.blockcheck.specs.Blocks.{Judged, bad-length, bad-marks, cut-at, unknown-at, astray-at, accepted}
 use Rattle.run.specs.declared.Lent.{Lent}
 use Rattle.run.specs.Steps.{stepOf, Moved}
 use Rattle.run.specs.Runs.{Ended, onMoved, runFrom, refusal, opened, taken, refused, runOf}
@@ -65,20 +63,6 @@ steps-fit code l d budget =
       steps-within code budget (opened l) d 0,
       budget-within (length code) (length d) (l .word) budget (eqb-true _ _ t),
     ))
-
--- a cut has no more pieces than bytes
-pieces-within : {pieces : List (List ℕ)} {code : List ℕ} → Cut pieces code → length pieces ≤ length code
-pieces-within done = omega arith
-pieces-within (next instruction later) = simp length-append (omega (arith, instruction-some instruction, pieces-within later))
-
--- what goes astray stands inside the code
-astray-within : (starts : List ℕ) (i k : ℕ) {pieces : List (List ℕ)} {code : List ℕ} (cut : Cut pieces code) → Astray starts i cut k → k ≤ i + length code
-unfolding Astray
-astray-within starts i k done a = absurd a
-astray-within starts i k (next instruction later) (inl (wrong, here)) = omega arith
-astray-within starts i k (next {bytes} instruction later) (inr (lawful, after)) =
-    let h = astray-within starts (i + length bytes) k later after in
-    simp length-append (omega arith)
 
 -- the count or the offset of a check fits a word
 pub value-fits : {code marks after : List ℕ} {number value : ℕ} → Judged code marks number value after → value < 2 ^ 32
