@@ -1,6 +1,6 @@
 // What opcodes mean, as numbers: two digits for the kind, one for bytes, and one each for the destination, the source and the third operand.
 
-// Where the operands are, the destination first.
+// Where the operands are, the destination first: RM and REG are the ModR/M byte's, OPCODE is the register of the opcode's last three bits, SIGNED one byte extended by sign.
 const FROM_OPCODE: u32 = 0x0040;
 
 const FROM_IMM: u32 = 0x0050;
@@ -103,7 +103,7 @@ pub const LOOP: u32 = 0x25_0000;
 
 pub const JECXZ: u32 = 0x26_0000;
 
-// Alu
+// ADD to CMP, by three bits of the opcode.
 const ALU: u32 = 0x00_0000;
 
 pub const ALU_RM_REG_BYTE: u32 = ALU + BYTES + RM_REG;
@@ -118,7 +118,7 @@ pub const ALU_ACCUMULATOR_IMM_BYTE: u32 = ALU + BYTES + ACCUMULATOR_IMM;
 
 pub const ALU_ACCUMULATOR_IMM_WIDE: u32 = ALU + ACCUMULATOR_IMM;
 
-// AluGroup
+// ADD to CMP, by the reg field.
 const ALU_GROUP: u32 = 0x01_0000;
 
 pub const ALU_GROUP_RM_IMM_BYTE: u32 = ALU_GROUP + BYTES + RM_IMM;
@@ -127,7 +127,7 @@ pub const ALU_GROUP_RM_IMM_WIDE: u32 = ALU_GROUP + RM_IMM;
 
 pub const ALU_GROUP_RM_SIGNED: u32 = ALU_GROUP + RM_SIGNED;
 
-// Test
+// TEST.
 const TEST: u32 = 0x02_0000;
 
 pub const TEST_RM_REG_BYTE: u32 = TEST + BYTES + RM_REG;
@@ -138,7 +138,7 @@ pub const TEST_ACCUMULATOR_IMM_BYTE: u32 = TEST + BYTES + ACCUMULATOR_IMM;
 
 pub const TEST_ACCUMULATOR_IMM_WIDE: u32 = TEST + ACCUMULATOR_IMM;
 
-// ShiftGroup
+// ROL to SAR, by the reg field.
 const SHIFT_GROUP: u32 = 0x05_0000;
 
 pub const SHIFT_GROUP_RM_IMM_BYTE: u32 = SHIFT_GROUP + BYTES + RM_IMM;
@@ -153,14 +153,14 @@ pub const SHIFT_GROUP_RM_CL_BYTE: u32 = SHIFT_GROUP + BYTES + RM_CL;
 
 pub const SHIFT_GROUP_RM_CL_WIDE: u32 = SHIFT_GROUP + RM_CL;
 
-// ProductGroup
+// TEST, NOT, NEG, MUL, IMUL, DIV and IDIV, by the reg field.
 const PRODUCT_GROUP: u32 = 0x06_0000;
 
 pub const PRODUCT_GROUP_RM_IMM_BYTE: u32 = PRODUCT_GROUP + BYTES + RM_IMM;
 
 pub const PRODUCT_GROUP_RM_IMM_WIDE: u32 = PRODUCT_GROUP + RM_IMM;
 
-// ImulLow
+// IMUL with two or three operands.
 const IMUL_LOW: u32 = 0x09_0000;
 
 pub const IMUL_LOW_REG_RM_IMM: u32 = IMUL_LOW + REG_RM_IMM;
@@ -169,7 +169,7 @@ pub const IMUL_LOW_REG_RM_SIGNED: u32 = IMUL_LOW + REG_RM_SIGNED;
 
 pub const IMUL_LOW_REG_RM_REG: u32 = IMUL_LOW + REG_RM_REG;
 
-// Mov
+// MOV.
 pub const MOV: u32 = 0x0A_0000;
 
 pub const MOV_RM_REG_BYTE: u32 = MOV + BYTES + RM_REG;
@@ -196,7 +196,7 @@ pub const MOV_RM_IMM_BYTE: u32 = MOV + BYTES + RM_IMM;
 
 pub const MOV_RM_IMM_WIDE: u32 = MOV + RM_IMM;
 
-// Xchg
+// XCHG.
 const XCHG: u32 = 0x10_0000;
 
 pub const XCHG_RM_REG_BYTE: u32 = XCHG + BYTES + RM_REG;
@@ -205,7 +205,7 @@ pub const XCHG_RM_REG_WIDE: u32 = XCHG + RM_REG;
 
 pub const XCHG_ACCUMULATOR_OPCODE: u32 = XCHG + ACCUMULATOR_OPCODE;
 
-// Push
+// PUSH.
 const PUSH: u32 = 0x1C_0000;
 
 pub const PUSH_FROM_OPCODE: u32 = PUSH + FROM_OPCODE;
@@ -214,40 +214,40 @@ pub const PUSH_FROM_IMM: u32 = PUSH + FROM_IMM;
 
 pub const PUSH_FROM_SIGNED: u32 = PUSH + FROM_SIGNED;
 
-// Return
+// RET.
 pub const RETURN: u32 = 0x20_0000;
 
 pub const RETURN_FROM_IMM: u32 = RETURN + FROM_IMM;
 
-// Movs
+// MOVS.
 const MOVS: u32 = 0x27_0000;
 
 pub const MOVS_BYTE: u32 = MOVS + BYTES;
 
 pub const MOVS_WIDE: u32 = MOVS;
 
-// Cmps
+// CMPS.
 const CMPS: u32 = 0x28_0000;
 
 pub const CMPS_BYTE: u32 = CMPS + BYTES;
 
 pub const CMPS_WIDE: u32 = CMPS;
 
-// Stos
+// STOS.
 const STOS: u32 = 0x29_0000;
 
 pub const STOS_BYTE: u32 = STOS + BYTES;
 
 pub const STOS_WIDE: u32 = STOS;
 
-// Lods
+// LODS.
 const LODS: u32 = 0x2A_0000;
 
 pub const LODS_BYTE: u32 = LODS + BYTES;
 
 pub const LODS_WIDE: u32 = LODS;
 
-// Scas
+// SCAS.
 const SCAS: u32 = 0x2B_0000;
 
 pub const SCAS_BYTE: u32 = SCAS + BYTES;
