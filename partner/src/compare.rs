@@ -35,9 +35,9 @@ pub enum Difference {
 
 /// A run's whole result.
 #[derive(Clone, PartialEq, Eq, Debug)]
-struct RunResult {
-    outcome: Outcome,
-    data: Vec<u8>,
+pub(crate) struct RunResult {
+    pub(crate) outcome: Outcome,
+    pub(crate) data: Vec<u8>,
 }
 
 /// The partner's result.
@@ -64,7 +64,7 @@ fn state_words(machine: &Machine) -> [u32; STATE_WORDS] {
 }
 
 /// The other program's result.
-fn other_run(case: &RunCase, other: &impl Other) -> RunResult {
+pub(crate) fn other_run(case: &RunCase, other: &dyn Other) -> RunResult {
     let mut state = state_words(&case.machine);
     let mut data = case.data.clone();
     let number = other.run(&mut state, &case.code, &mut data, case.budget);
@@ -73,6 +73,14 @@ fn other_run(case: &RunCase, other: &impl Other) -> RunResult {
     let machine = Machine { regs, eip: state[8], flags: state[9] };
     let outcome = Outcome { machine, steps: u64::from(state[10]), number, address: state[11], undefined: 0 };
     RunResult { outcome, data }
+}
+
+/// The other program's verdict and marks.
+pub(crate) fn other_check(case: &CheckCase, other: &dyn Other) -> (Verdict, Vec<u8>) {
+    let mut marks = case.marks.clone();
+    let mut answer = [0xA5A5_A5A5; ANSWER_WORDS];
+    let number = other.check(&case.code, &mut marks, &mut answer);
+    (Verdict { number, answer: answer[0] }, marks)
 }
 
 /// How the other program's result differs from the partner's.
@@ -103,7 +111,7 @@ fn result_text(result: &RunResult) -> String {
 }
 
 /// The inputs and both results, with the first step that differs.
-fn run_report(case: &RunCase, kind: Difference, other: &impl Other) -> String {
+fn run_report(case: &RunCase, kind: Difference, other: &dyn Other) -> String {
     let ours = partner_run(case, None);
     let most = case.budget.min(ours.outcome.steps + 1).min(STEPS_SEARCHED);
     let first = (0..=most).find(|&budget| {
@@ -131,8 +139,8 @@ fn run_report(case: &RunCase, kind: Difference, other: &impl Other) -> String {
 }
 
 /// Disagreements found so far.
-pub struct Comparison<'a, O: Other> {
-    other: &'a O,
+pub struct Comparison<'a> {
+    other: &'a dyn Other,
     pub coverage: Coverage,
     pub defined: u64,
     pub policy: u64,
@@ -141,9 +149,9 @@ pub struct Comparison<'a, O: Other> {
     limit: usize,
 }
 
-impl<'a, O: Other> Comparison<'a, O> {
+impl<'a> Comparison<'a> {
     /// Nothing compared yet; so many disagreements are kept in full.
-    pub fn new<'b>(other: &'a O, form_names: impl Iterator<Item = &'b str>, limit: usize) -> Self {
+    pub fn new<'b>(other: &'a dyn Other, form_names: impl Iterator<Item = &'b str>, limit: usize) -> Self {
         Comparison { other, coverage: Coverage::new(form_names), defined: 0, policy: 0, reports: Vec::new(), limit }
     }
 
@@ -174,10 +182,7 @@ impl<'a, O: Other> Comparison<'a, O> {
         let mut our_marks = case.marks.clone();
         let ours = check(&case.code, &mut our_marks);
         self.coverage.checked(ours.number);
-        let mut their_marks = case.marks.clone();
-        let mut answer = [0xA5A5_A5A5; ANSWER_WORDS];
-        let number = self.other.check(&case.code, &mut their_marks, &mut answer);
-        let theirs = Verdict { number, answer: answer[0] };
+        let (theirs, their_marks) = other_check(case, self.other);
         if ours != theirs || our_marks != their_marks {
             self.disagree(Difference::Defined, || {
                 format!(
@@ -235,7 +240,7 @@ impl<'a, O: Other> Comparison<'a, O> {
 }
 
 /// Compares so many random cases.
-pub fn compare<O: Other>(other: &O, seed: u64, count: u64, limit: usize) -> Comparison<'_, O> {
+pub fn compare(other: &dyn Other, seed: u64, count: u64, limit: usize) -> Comparison<'_> {
     let mut generator = Generator::new(seed, Size::Large);
     let names: Vec<String> = generator.form_names().map(str::to_string).collect();
     let mut comparison = Comparison::new(other, names.iter().map(String::as_str), limit);
@@ -247,7 +252,7 @@ pub fn compare<O: Other>(other: &O, seed: u64, count: u64, limit: usize) -> Comp
 }
 
 /// Compares the block check on every code of 1 to 3 bytes, alone and with zero bytes behind.
-pub fn sweep<O: Other>(other: &O, limit: usize) -> Comparison<'_, O> {
+pub fn sweep(other: &dyn Other, limit: usize) -> Comparison<'_> {
     const ZEROS: usize = 10;
     let mut comparison = Comparison::new(other, std::iter::empty(), limit);
     for length in 1..=3usize {

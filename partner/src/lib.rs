@@ -8,6 +8,7 @@ pub mod coverage;
 pub mod decode;
 pub mod machine;
 pub mod random;
+pub mod remote;
 pub mod run;
 #[cfg(sangolid)]
 pub mod sangolid;

@@ -3,12 +3,14 @@
 use std::io::{self, BufWriter, Write};
 use std::process::ExitCode;
 
+use partner::compare::{compare, sweep, Comparison, Other};
 use partner::vectors::write_vectors;
 
 const USAGE: &str = "usage:
   partner compare --seed S --count N [--limit L]   random cases beside Sangolid
   partner sweep [--limit L]                        block check of every code of 1 to 3 bytes beside Sangolid
-  partner vectors --seed S --count N               cases with expected results, one a line";
+  partner vectors --seed S --count N               cases with expected results, one a line
+  partner replies --seed S --count N               the same lines with Sangolid's results";
 
 /// Disagreements printed in full unless a limit is given.
 const LIMIT: u64 = 20;
@@ -23,9 +25,26 @@ fn option(arguments: &[String], name: &str, default: Option<u64>) -> Result<u64,
     }
 }
 
-/// Prints a comparison's disagreements and tells whether all agreed.
+/// The linked library.
 #[cfg(sangolid)]
-fn print(comparison: &partner::compare::Comparison<partner::sangolid::Sangolid>) -> bool {
+fn sangolid() -> Result<Box<dyn Other>, String> {
+    Ok(Box::new(partner::sangolid::Sangolid))
+}
+
+/// The library of another processor, in a program of its own.
+#[cfg(sangolid_remote)]
+fn sangolid() -> Result<Box<dyn Other>, String> {
+    Ok(Box::new(partner::remote::Remote::start(&[env!("SANGOLID_RUN"), env!("SANGOLID_SERVE")])?))
+}
+
+/// Tells that there is no library.
+#[cfg(not(any(sangolid, sangolid_remote)))]
+fn sangolid() -> Result<Box<dyn Other>, String> {
+    Err("built without Sangolid: set SANGOLID_LIB and build again".to_string())
+}
+
+/// Prints a comparison's disagreements and tells whether all agreed.
+fn print(comparison: &Comparison) -> bool {
     for report in &comparison.reports {
         println!("{report}");
     }
@@ -33,39 +52,10 @@ fn print(comparison: &partner::compare::Comparison<partner::sangolid::Sangolid>)
     comparison.defined == 0 && comparison.policy == 0
 }
 
-/// Compares random cases with Sangolid.
-#[cfg(sangolid)]
-fn compare(seed: u64, count: u64, limit: u64) -> Result<bool, String> {
-    let comparison = partner::compare::compare(&partner::sangolid::Sangolid, seed, count, limit as usize);
-    print!("{}", comparison.coverage);
-    Ok(print(&comparison))
-}
-
-/// Compares every short code with Sangolid.
-#[cfg(sangolid)]
-fn sweep(limit: u64) -> Result<bool, String> {
-    Ok(print(&partner::compare::sweep(&partner::sangolid::Sangolid, limit as usize)))
-}
-
-#[cfg(not(sangolid))]
-const UNLINKED: &str = "built without Sangolid: set SANGOLID_LIB and build again";
-
-/// Tells that Sangolid isn't linked.
-#[cfg(not(sangolid))]
-fn compare(_seed: u64, _count: u64, _limit: u64) -> Result<bool, String> {
-    Err(UNLINKED.to_string())
-}
-
-/// Tells that Sangolid isn't linked.
-#[cfg(not(sangolid))]
-fn sweep(_limit: u64) -> Result<bool, String> {
-    Err(UNLINKED.to_string())
-}
-
 /// Writes vectors to standard output and their coverage to standard error.
-fn vectors(seed: u64, count: u64) -> Result<bool, String> {
+fn vectors(other: Option<&dyn Other>, seed: u64, count: u64) -> Result<bool, String> {
     let mut out = BufWriter::new(io::stdout().lock());
-    let coverage = write_vectors(&mut out, seed, count)
+    let coverage = write_vectors(&mut out, other, seed, count)
         .and_then(|coverage| out.flush().map(|()| coverage))
         .map_err(|error| error.to_string())?;
     eprint!("{coverage}");
@@ -75,15 +65,26 @@ fn vectors(seed: u64, count: u64) -> Result<bool, String> {
 /// Carries out the command line.
 fn carry_out(arguments: &[String]) -> Result<bool, String> {
     let seed_and_count = || Ok::<_, String>((option(arguments, "--seed", None)?, option(arguments, "--count", None)?));
+    let limit = || option(arguments, "--limit", Some(LIMIT)).map(|limit| limit as usize);
     match arguments.first().map(String::as_str) {
         Some("compare") => {
             let (seed, count) = seed_and_count()?;
-            compare(seed, count, option(arguments, "--limit", Some(LIMIT))?)
+            let (limit, other) = (limit()?, sangolid()?);
+            let comparison = compare(&*other, seed, count, limit);
+            print!("{}", comparison.coverage);
+            Ok(print(&comparison))
         }
-        Some("sweep") => sweep(option(arguments, "--limit", Some(LIMIT))?),
+        Some("sweep") => {
+            let (limit, other) = (limit()?, sangolid()?);
+            Ok(print(&sweep(&*other, limit)))
+        }
         Some("vectors") => {
             let (seed, count) = seed_and_count()?;
-            vectors(seed, count)
+            vectors(None, seed, count)
+        }
+        Some("replies") => {
+            let (seed, count) = seed_and_count()?;
+            vectors(Some(&*sangolid()?), seed, count)
         }
         _ => Err(USAGE.to_string()),
     }

@@ -4,9 +4,10 @@ use std::io::{self, Write};
 
 use crate::cases::{Case, CheckCase, Generator, RunCase, Size};
 use crate::check::check;
+use crate::compare::{other_check, other_run, Other};
 use crate::coverage::Coverage;
 use crate::machine::Machine;
-use crate::run::run_observed;
+use crate::run::{run_observed, Outcome};
 use crate::text::hex;
 
 /// The header: names of the columns.
@@ -31,11 +32,24 @@ fn machine_columns(machine: &Machine) -> String {
 /// Ten columns that a check doesn't use.
 const NO_MACHINE: &str = "-\t-\t-\t-\t-\t-\t-\t-\t-\t-";
 
-/// Writes the lines of a run and gives back the case that goes on from its end.
-fn write_run(out: &mut impl Write, case: &RunCase, coverage: &mut Coverage) -> io::Result<RunCase> {
+/// Where lines go, whose results they hold (none: the partner's own), and what they cover.
+struct Lines<'a, W: Write> {
+    out: &'a mut W,
+    other: Option<&'a dyn Other>,
+    coverage: Coverage,
+}
+
+/// Writes the line of a run and gives back the case that goes on from its end.
+fn write_run(lines: &mut Lines<impl Write>, case: &RunCase) -> io::Result<RunCase> {
+    let Lines { out, other, coverage } = lines;
     let mut data = case.data.clone();
-    let outcome = run_observed(case.machine, &case.code, &mut data, case.budget, |seen| coverage.saw(&seen));
+    let mut outcome = run_observed(case.machine, &case.code, &mut data, case.budget, |seen| coverage.saw(&seen));
     coverage.ran(&outcome, &case.code);
+    if let Some(other) = other {
+        let theirs = other_run(case, *other);
+        outcome = Outcome { undefined: outcome.undefined, ..theirs.outcome };
+        data = theirs.data;
+    }
     writeln!(
         out,
         "run\t{}\t{:X}\t{:X}\t{}\t{:X}\t{}\t{:X}\t{:X}\t{:X}\t{}\t{:X}\t{}",
@@ -56,10 +70,14 @@ fn write_run(out: &mut impl Write, case: &RunCase, coverage: &mut Coverage) -> i
 }
 
 /// Writes the line of a check; its count or offset stands in the address column.
-fn write_check(out: &mut impl Write, case: &CheckCase, coverage: &mut Coverage) -> io::Result<()> {
+fn write_check(lines: &mut Lines<impl Write>, case: &CheckCase) -> io::Result<()> {
+    let Lines { out, other, coverage } = lines;
     let mut marks = case.marks.clone();
-    let verdict = check(&case.code, &mut marks);
+    let mut verdict = check(&case.code, &mut marks);
     coverage.checked(verdict.number);
+    if let Some(other) = other {
+        (verdict, marks) = other_check(case, *other);
+    }
     writeln!(
         out,
         "check\t{NO_MACHINE}\t-\t{:X}\t{}\t{:X}\t{}\t{:X}\t-\t{:X}\t{NO_MACHINE}\t-\t{}",
@@ -73,39 +91,40 @@ fn write_check(out: &mut impl Write, case: &CheckCase, coverage: &mut Coverage) 
     )
 }
 
-/// Writes the header and so many lines, first one finished step of each form, and gives back what they cover.
-pub fn write_vectors(out: &mut impl Write, seed: u64, count: u64) -> io::Result<Coverage> {
+/// Writes the header and so many lines, first one finished step of each form, and gives back what they cover. With
+/// another program the results are its own, but for the undefined flags.
+pub fn write_vectors(out: &mut impl Write, other: Option<&dyn Other>, seed: u64, count: u64) -> io::Result<Coverage> {
     let mut generator = Generator::new(seed, Size::Small);
     let names: Vec<String> = generator.form_names().map(str::to_string).collect();
-    let mut coverage = Coverage::new(names.iter().map(String::as_str));
-    writeln!(out, "{HEADER}")?;
-    let mut lines = 0;
+    let mut lines = Lines { out, other, coverage: Coverage::new(names.iter().map(String::as_str)) };
+    writeln!(lines.out, "{HEADER}")?;
+    let mut written = 0;
     for form in (0..names.len()).take(count as usize) {
-        write_run(out, &generator.finishing(form), &mut coverage)?;
-        lines += 1;
+        write_run(&mut lines, &generator.finishing(form))?;
+        written += 1;
     }
-    while lines < count {
+    while written < count {
         match generator.next_case() {
             Case::Run(case) => {
-                write_run(out, &case, &mut coverage)?;
-                lines += 1;
+                write_run(&mut lines, &case)?;
+                written += 1;
             }
             Case::Resume(case, more) => {
-                let rest = write_run(out, &case, &mut coverage)?;
-                lines += 1;
-                if lines < count {
-                    coverage.resume();
-                    write_run(out, &RunCase { budget: more, ..rest }, &mut coverage)?;
-                    lines += 1;
+                let rest = write_run(&mut lines, &case)?;
+                written += 1;
+                if written < count {
+                    lines.coverage.resume();
+                    write_run(&mut lines, &RunCase { budget: more, ..rest })?;
+                    written += 1;
                 }
             }
             Case::Check(case) => {
-                write_check(out, &case, &mut coverage)?;
-                lines += 1;
+                write_check(&mut lines, &case)?;
+                written += 1;
             }
             // The C areas' lengths are no part of a run or check.
             Case::StateLength(..) | Case::AnswerLength(..) => {}
         }
     }
-    Ok(coverage)
+    Ok(lines.coverage)
 }

@@ -93,7 +93,7 @@ impl Other for Keeper {
 }
 
 /// The comparison with a keeper.
-fn compared(keeper: &Keeper) -> Comparison<'_, Keeper> {
+fn compared(keeper: &Keeper) -> Comparison<'_> {
     compare(keeper, 3, 20_000, 0)
 }
 
