@@ -1,4 +1,4 @@
--- An entry of the code's table of opcodes in words: a number, a digit a property.
+-- An entry of the code's table of opcodes in words, a digit a property: for its private functions; nothing here need be believed.
 -- Assumes nothing.
 use mathlib.Core.List.{List, [], _∷_}
 use Prim.Native.Nat.{ℕ, _/_, _%_}

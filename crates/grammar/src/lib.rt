@@ -6,4 +6,4 @@ mod parts;
 pub mod reader;
 pub mod relative;
 pub mod rule;
-pub mod table;
+mod table;

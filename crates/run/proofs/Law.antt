@@ -13,7 +13,7 @@ use Rattle.flags.proofs.RoundTrips.{unpacked, word-passes}
 use Rattle.machine.specs.declared.registers.Machine.{Machine}
 use Rattle.run.specs.declared.Lent.{Lent}
 use Rattle.run.specs.Steps.{Moved, next, stop, stepOf}
-use Rattle.run.specs.Runs.{Ended, HandedBack, onMoved, runFrom, refusal, opened, closed, taken, refused, runOf}
+use Rattle.run.specs.Runs.{Ended, onMoved, runFrom, refusal, opened, closed, taken, refused, runOf}
 use Rattle.run.specs.Pausing.{Joined}
 use Rattle.run.proofs.Kept.{run-keeps}
 

@@ -1,7 +1,7 @@
 -- MOVS, STOS or LODS repeated from ECX = n and not stopped takes n steps, or 1 where n is 0. Assumes nothing.
 use mathlib.Core.Path.{_≡_, refl, sym, ap, _∙_}
 use mathlib.Core.Logic.{_↔_, ⊎-elim}
-use mathlib.Core.Bool.{false, cond}
+use mathlib.Core.Bool.{cond}
 use mathlib.Core.List.{List}
 use Prim.Native.Nat.{ℕ, zero, suc, _+_, _-_, _<_, _≤_, _^_}
 use native.Mathlib.Omega.{arith}
@@ -13,10 +13,7 @@ use Rattle.width.specs.Sizes.{bits, modulus}
 use Rattle.width.specs.Numbers.{residue, rest}
 use Rattle.machine.specs.declared.registers.Machine.{Machine}
 use Rattle.machine.specs.Registers.{register, withEip}
-use Rattle.grammar.specs.declared.rule.Repeat.{Repeat}
 use Rattle.grammar.specs.declared.instruction.Decoded.{Decoded}
-use Rattle.grammar.specs.declared.instruction.Found.{Found}
-use Rattle.grammar.specs.Decoding.{decodeOf}
 use Rattle.grammar.proofs.Answered.{found-standing}
 use Rattle.grammar.proofs.Eleven.{found-eleven}
 use Rattle.blockcheck.specs.Blocks.{codeBase}
@@ -29,7 +26,7 @@ use Rattle.effect.specs.declared.outcome.Effect.{Effect}
 use Rattle.effect.specs.declared.outcome.Reads.the-variants.{Nothing}
 use Rattle.effect.specs.Words.{becomes, onward}
 use Rattle.effect.specs.Branches.{ecx}
-use Rattle.effect.specs.Strings.{compares, idle, stringReads, stringEffect}
+use Rattle.effect.specs.Strings.{idle, stringReads, stringEffect}
 use Rattle.effect.specs.All.{readsBy, effectBy}
 use Rattle.effect.proofs.Repeats.{none-left, counts, as-many, goes-on}
 use Rattle.run.specs.Steps.{next, committed, finished, performed, planned, executed, stepOf}

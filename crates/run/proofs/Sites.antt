@@ -17,7 +17,7 @@ use Rattle.plan.specs.Plans.{planOf}
 use Rattle.run.specs.declared.site.Site.{Site}
 use Rattle.run.specs.declared.step.Stepped.{Stepped}
 use Rattle.run.specs.Steps.{stop, home, planned, executed, stepOf, Steps}
-use Rattle.run.specs.Sites.{siteStep, Stops, Tells, Right}
+use Rattle.run.specs.Sites.{siteStep, Stops, Tells}
 use Rattle.run.proofs.Places.{at-home, below-code, past-code, in-code}
 
 module _ (code : List ℕ) (eip : ℕ) where
@@ -69,12 +69,16 @@ pub taken : {code : List ℕ} {eip : ℕ} {s : Site} → Tells code eip s → {m
     → Steps (siteStep s m d) m d r after → Steps (stepOf code m d) m d r after
 taken t {m} {d} at steps = rw (t .is m d at) steps
 
+-- a site that has a plan tells each step at its EIP
+pub record Right (code : List ℕ) (s : Site) : Type 0 where
+  pub tells : s .planned ≡ true → Tells code (s .eip) s
+
 -- what tells the steps at an EIP is right
-pub right : {code : List ℕ} {eip : ℕ} {s : Site} → Tells code eip s → Right code s
+right : {code : List ℕ} {eip : ℕ} {s : Site} → Tells code eip s → Right code s
 right t = record { tells = λ has. record { place = refl; is = λ m d e. t .is m d (e ∙ t .place) } }
 
 -- a right site that has a plan and is that of an EIP tells the steps there
-pub hit : {code : List ℕ} {eip : ℕ} {s : Site} → Right code s → (s .planned && eqb (s .eip) eip) ≡ true → Tells code eip s
+hit : {code : List ℕ} {eip : ℕ} {s : Site} → Right code s → (s .planned && eqb (s .eip) eip) ≡ true → Tells code eip s
 hit {code} {eip} {s} r both = by (s .planned) refl both
   where
     by : (has : Bool) → s .planned ≡ has → (has && eqb (s .eip) eip) ≡ true → Tells code eip s
@@ -97,7 +101,7 @@ none-kept code {s} stops =
     }
 
 -- a site more is kept
-pub keeps : {code : List ℕ} {kept : List Site} {eip : ℕ} {s : Site} → Keeping code kept → (i : ℕ) → i < 64 → Tells code eip s → Keeping code (set kept i s)
+keeps : {code : List ℕ} {kept : List Site} {eip : ℕ} {s : Site} → Keeping code kept → (i : ℕ) → i < 64 → Tells code eip s → Keeping code (set kept i s)
 keeps {code} {kept} {s} k i h t =
     record {
       many = length-set kept i s ∙ k .many;
@@ -108,10 +112,10 @@ keeps {code} {kept} {s} k i h t =
     by j none below true e = rw (eqb-true j i e, getD-set-same kept i s none (omega (arith, k .many))) (right t)
     by j none below false e = rw (getD-set-other kept i j s none (eqb-false j i e)) (k .all-right j none below)
 
--- what is not refused holds
-doubly : (b : Bool) → not b ≡ false → b ≡ true
-doubly true e = refl
-doubly false e = absurd (let z : _≡_ {A = ℕ} 0 1 = cc in omega arith)
+-- what does not fail holds
+not-failing : (b : Bool) → not b ≡ false → b ≡ true
+not-failing true e = refl
+not-failing false e = absurd (let z : _≡_ {A = ℕ} 0 1 = cc in omega arith)
 
 -- sites are kept, and the one in a slot tells the steps at an EIP
 pub record Ready (code : List ℕ) (eip : ℕ) (kept : List Site) (slot : ℕ) (none : Site) : Type 0 where
@@ -131,4 +135,4 @@ module _ {code : List ℕ} {eip : ℕ} {kept kept′ : List Site} {slot : ℕ} {
   -- it was there
   pub known : {b : Bool} → b ≡ ((getD kept slot none) .planned && eqb ((getD kept slot none) .eip) eip) → not b ≡ false → kept′ ≡ kept
       → Ready code eip kept′ slot none
-  known {b} is held e = rw e (record { keeping = k; tells = hit (k .all-right slot none h) (sym is ∙ doubly b held) })
+  known {b} is held e = rw e (record { keeping = k; tells = hit (k .all-right slot none h) (sym is ∙ not-failing b held) })

@@ -3,14 +3,14 @@ use mathlib.Core.Path.{_≡_, refl, sym, _∙_}
 use mathlib.Core.Logic.{_↔_}
 use mathlib.Core.Bool.{Bool, true, false}
 use mathlib.Core.List.{List}
-use Prim.Native.Nat.{ℕ, _-_, _<_, _≤_}
+use Prim.Native.Nat.{ℕ, _-_, _≤_}
 use native.Mathlib.Omega.{arith}
 use lib.Dec.{leb, ltb, eqb}
-use lib.ListN.{length, drop}
+use lib.ListN.{length}
 use borrow.Author.Tests.{eqb-true, eqb-false, leb-true, leb-false, ltb-true, ltb-false}
 use Rattle.machine.specs.declared.registers.Machine.{Machine}
 use Rattle.grammar.specs.declared.instruction.Found.{Found}
-use Rattle.grammar.specs.Answers.{numbers, Begins, Prefix, instruction, cut, unknown}
+use Rattle.grammar.specs.Answers.{numbers, Begins, instruction, cut, unknown}
 use Rattle.grammar.specs.Decoding.{decodeOf}
 use Rattle.grammar.proofs.Answered.{found-cut, found-unknown, answers-decode}
 use Rattle.blockcheck.specs.Blocks.{codeBase}

@@ -1,6 +1,6 @@
 -- What a step at an EIP takes from the code alone: for the private functions that keep it; nothing here need be believed. Assumes nothing.
 use mathlib.Core.Path.{_≡_}
-use mathlib.Core.Bool.{Bool, true, false, cond}
+use mathlib.Core.Bool.{false, cond}
 use mathlib.Core.List.{List}
 use Prim.Native.Nat.{ℕ}
 use Rattle.machine.specs.declared.registers.Machine.{Machine}
@@ -21,7 +21,3 @@ pub record Stops (eip number : ℕ) (s : Site) : Type 0 where
 pub record Tells (code : List ℕ) (eip : ℕ) (s : Site) : Type 0 where
   pub place : s .eip ≡ eip
   pub is : (m : Machine) (d : List ℕ) → m .eip ≡ eip → stepOf code m d ≡ siteStep s m d
-
--- a site that has a plan tells each step at its EIP
-pub record Right (code : List ℕ) (s : Site) : Type 0 where
-  pub tells : s .planned ≡ true → Tells code (s .eip) s

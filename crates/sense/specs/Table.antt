@@ -1,4 +1,4 @@
--- An entry of the code's map of opcodes in words: a number, digits a property. Assumes nothing.
+-- An entry of the code's map of opcodes in words, digits a property: for its private functions; nothing here need be believed. Assumes nothing.
 use mathlib.Core.List.{List, [], _∷_}
 use Prim.Native.Nat.{ℕ, _/_, _%_}
 use lib.Dec.{eqb}

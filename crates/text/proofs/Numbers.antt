@@ -7,7 +7,7 @@ use native.Mathlib.Nat.{pow-succ'}
 use native.Mathlib.Omega.{arith}
 use lib.ListN.{length, getD, length-append, List·getD-append}
 use borrow.Author.Tests.{lt-ltb, le-ltb}
-use Rattle.text.specs.Digits.{decimalBy, decimal, hexDigit, hexadecimal, readOn}
+use Rattle.text.specs.Digits.{decimalBy, decimal, hexDigit, hexadecimal, readOn, figure}
 use Rattle.text.proofs.Writing.{within}
 
 -- one digit, by any divisions
@@ -74,13 +74,13 @@ hexadecimal-length zero n = refl
 hexadecimal-length (suc k) n = rw (length-append, hexadecimal-length k (n / 16)) (omega arith)
 
 -- reading joined digits
-read-append : (n : ℕ) (xs ys : List ℕ) → readOn n (xs ++ ys) ≡ readOn (readOn n xs) ys
+read-append : (base : ℕ) (value : ℕ → ℕ) (n : ℕ) (xs ys : List ℕ) → readOn base value n (xs ++ ys) ≡ readOn base value (readOn base value n xs) ys
 unfolding readOn
-read-append n [] ys = refl
-read-append n (x ∷ xs) ys = read-append (10 * n + (x - 48)) xs ys
+read-append base value n [] ys = refl
+read-append base value n (x ∷ xs) ys = read-append base value (base * n + value x) xs ys
 
 -- digits by enough divisions stand for the number
-by-reads : (k n : ℕ) → n ≤ k → readOn 0 (decimalBy k n) ≡ n
+by-reads : (k n : ℕ) → n ≤ k → readOn 10 figure 0 (decimalBy k n) ≡ n
 unfolding decimalBy readOn
 by-reads zero n h = omega arith
 by-reads (suc k) n h =
@@ -89,7 +89,7 @@ by-reads (suc k) n h =
     (within n 9)
 
 -- the decimal digits of a number stand for it
-pub decimal-reads : (n : ℕ) → readOn 0 (decimal n) ≡ n
+pub decimal-reads : (n : ℕ) → readOn 10 figure 0 (decimal n) ≡ n
 unfolding decimal
 decimal-reads n = by-reads n n (omega arith)
 

@@ -22,7 +22,11 @@ unfoldable pub hexadecimal : ℕ → ℕ → List ℕ
 hexadecimal zero n = []
 hexadecimal (suc k) n = hexadecimal k (n / 16) ++ hexDigit (n % 16) ∷ []
 
--- the number that decimal digits stand for, behind a number already read
-unfoldable pub readOn : ℕ → List ℕ → ℕ
-readOn n [] = n
-readOn n (d ∷ digits) = readOn (10 * n + (d - 48)) digits
+-- the number that digits in a base stand for, behind a number already read; `value` is that of a digit
+unfoldable pub readOn : ℕ → (ℕ → ℕ) → ℕ → List ℕ → ℕ
+readOn base value n [] = n
+readOn base value n (d ∷ digits) = readOn base value (base * n + value d) digits
+
+-- what a decimal digit stands for
+abbrev pub figure : ℕ → ℕ
+figure d = d - 48

@@ -8,7 +8,7 @@ use Rattle.sangolid.proofs.Outcomes.{checks-unique}
 use Rattle.vector_run.specs.declared.judging.Finding.{Finding}
 use Rattle.vector_run.specs.declared.judging.Finding.the-variants.{Same, DiffersIn}
 use Rattle.vector_run.specs.declared.tally.Tally.{Tally}
-use Rattle.vector_run.specs.Findings.{Told, agrees, fieldFor, firstOther, CheckFinds, checked, KindFinds, SizedFinds, no-code, no-area, sized, Finds, of-run, of-check, of-neither}
+use Rattle.vector_run.specs.Findings.{Told, agrees, Agree, fieldFor, firstOther, CheckFinds, checked, KindFinds, SizedFinds, no-code, no-area, sized, Finds, of-run, of-check, of-neither}
 use Rattle.vector_run.specs.Counts.{counted}
 use Rattle.vector_run.specs.Lines.{TakesLine, too-long, the-header, a-case, Takes, no-more, a-byte, a-line}
 
@@ -71,11 +71,6 @@ takes-unique (a-byte p k) (a-byte q l) = takes-unique k l
 takes-unique (a-byte p k) (a-line e l) = absurd (p refl)
 takes-unique (a-line d k) (a-byte q l) = absurd (q refl)
 takes-unique (a-line d k) (a-line e l) = takes-unique k (rw (← line-unique d e) at l)
-
--- every value that came out is the line's
-abbrev pub Agree : List ℕ → List Told → Type 0
-Agree line [] = Unit {0}
-Agree line (told ∷ later) = (agrees line told ≡ true) × Agree line later
 
 -- the same, if all agree
 pub same-if-all : (line : List ℕ) (values : List Told) → Agree line values → firstOther line values ≡ Same

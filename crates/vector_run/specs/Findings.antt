@@ -22,6 +22,11 @@ unfoldable pub agrees : List ℕ → Told → Bool
 agrees line (Told.theNumber k n) = eqb n (numberOf line k)
 agrees line (Told.theArea k bytes) = isHeld bytes (bytesOf (fieldOf line k))
 
+-- every value that came out is the line's
+abbrev pub Agree : List ℕ → List Told → Type 0
+Agree line [] = Unit {0}
+Agree line (told ∷ later) = (agrees line told ≡ true) × Agree line later
+
 -- the field that it is for
 unfoldable pub fieldFor : Told → ℕ
 fieldFor (Told.theNumber k n) = k

@@ -8,7 +8,8 @@ use native.Mathlib.Omega.{arith}
 use lib.ListN.{length, getD, drop, drop-of-length-le}
 use lib.Seq.{drop-cons}
 use borrow.Author.Tests.{le-leb, lt-leb}
-use Rattle.vector_text.specs.Hex.{isFigure, isLetter, isDigit, digitOf, areDigits, readOn}
+use Rattle.text.specs.Digits.{readOn}
+use Rattle.vector_text.specs.Hex.{isFigure, isLetter, isDigit, digitOf, areDigits}
 
 -- what a byte is as a digit: whether it is one, and its value
 pub record Digit (b : ℕ) (is : Bool) (value : ℕ) : Type 0 where
@@ -66,7 +67,7 @@ module _ (text : List ℕ) (i : ℕ) where
   digits-end h = rw (drop-of-length-le text h)
 
 -- numbers with the same rest give numbers with the same rest
-same-rest : (m n : ℕ) (text : List ℕ) → m % 2 ^ 64 ≡ n % 2 ^ 64 → readOn m text % 2 ^ 64 ≡ readOn n text % 2 ^ 64
+same-rest : (m n : ℕ) (text : List ℕ) → m % 2 ^ 64 ≡ n % 2 ^ 64 → readOn 16 digitOf m text % 2 ^ 64 ≡ readOn 16 digitOf n text % 2 ^ 64
 unfolding readOn
 same-rest m n [] h = h
 same-rest m n (b ∷ text) h = same-rest (16 * m + digitOf b) (16 * n + digitOf b) text (omega arith)
@@ -74,12 +75,12 @@ same-rest m n (b ∷ text) h = same-rest (16 * m + digitOf b) (16 * n + digitOf 
 module _ (text : List ℕ) (sum i : ℕ) where
   -- a digit more behind the last fifteen
   pub value-goes : i < length text
-      → readOn sum (drop i text) % 2 ^ 64 ≡ readOn (sum % 2 ^ 60 * 16 + digitOf (getD text i 0)) (drop (i + 1) text) % 2 ^ 64
+      → readOn 16 digitOf sum (drop i text) % 2 ^ 64 ≡ readOn 16 digitOf (sum % 2 ^ 60 * 16 + digitOf (getD text i 0)) (drop (i + 1) text) % 2 ^ 64
   value-goes h =
       rw (add-one, drop-cons text i 0 h)
       (unfold readOn in same-rest (16 * sum + digitOf (getD text i 0)) (sum % 2 ^ 60 * 16 + digitOf (getD text i 0)) (drop (suc i) text) (omega arith))
 
   -- no digit is left
-  pub value-ends : length text ≤ i → sum < 2 ^ 64 → readOn sum (drop i text) % 2 ^ 64 ≡ sum
+  pub value-ends : length text ≤ i → sum < 2 ^ 64 → readOn 16 digitOf sum (drop i text) % 2 ^ 64 ≡ sum
   unfolding readOn
   value-ends h small = rw (drop-of-length-le text h) (omega arith)

@@ -4,6 +4,7 @@ use mathlib.Core.List.{List, [], _∷_}
 use Prim.Native.Nat.{ℕ, zero, suc, _+_, _-_, _*_}
 use lib.Dec.{leb, eqb}
 use lib.ListN.{length}
+use Rattle.text.specs.Digits.{readOn}
 
 -- a digit from 0 to 9; 48 is `0`
 unfoldable pub isFigure : ℕ → Bool
@@ -26,14 +27,9 @@ unfoldable pub areDigits : List ℕ → Bool
 areDigits [] = true
 areDigits (b ∷ text) = isDigit b && areDigits text
 
--- the number that digits stand for, behind a number already read
-unfoldable pub readOn : ℕ → List ℕ → ℕ
-readOn n [] = n
-readOn n (b ∷ text) = readOn (16 * n + digitOf b) text
-
 -- the number that digits stand for
 unfoldable pub valueOf : List ℕ → ℕ
-valueOf text = readOn 0 text
+valueOf text = readOn 16 digitOf 0 text
 
 -- the bytes that digits stand for, two digits a byte; a single byte, as the dash, stands for none
 unfoldable pub bytesOf : List ℕ → List ℕ

@@ -7,7 +7,7 @@ use borrow.Author.Needs.{needs}
 use lib.ListN.{getD}
 use Rattle.flags.proofs.meets.Statement.{statement}
 use Rattle.flags.proofs.meets.Tie as tie
-use Rattle.flags.specs.Conditions.{Condition, O, differs, holds, conditions, meets}
+use Rattle.flags.specs.Conditions.{O, differs, holds, conditions, meets}
 use Rattle.flags.specs.declared.Flags.{Flags}
 
 -- neither of the two

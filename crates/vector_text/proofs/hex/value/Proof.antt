@@ -4,13 +4,14 @@ use Prim.Native.Nat.{_≤_, _<_, _-_, _%_, _^_}
 use native.Mathlib.Omega.{arith}
 use lib.ListN.{length, drop}
 use borrow.Author.Needs.{needs}
-use Rattle.vector_text.specs.Hex.{readOn, valueOf}
+use Rattle.text.specs.Digits.{readOn}
+use Rattle.vector_text.specs.Hex.{digitOf, valueOf}
 use Rattle.vector_text.proofs.Digits.{value-goes, value-ends}
 use Rattle.vector_text.proofs.hex.value.Statement.{statement}
 use Rattle.vector_text.proofs.hex.value.Tie as tie
 
 abbrev Inv-loop : tie.InvT-loop
-Inv-loop text sum₀ i₀ sum i = (i ≤ length text) × (sum < 2 ^ 64) × (readOn sum (drop i text) % 2 ^ 64 ≡ valueOf text % 2 ^ 64)
+Inv-loop text sum₀ i₀ sum i = (i ≤ length text) × (sum < 2 ^ 64) × (readOn 16 digitOf sum (drop i text) % 2 ^ 64 ≡ valueOf text % 2 ^ 64)
 
 abbrev μ-loop : tie.MeasureT-loop
 μ-loop text sum₀ i₀ sum i = length text - i
