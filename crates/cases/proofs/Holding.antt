@@ -47,14 +47,14 @@ unfolding All Holds Gives cases-1-to-12 ones codeBase
     LittleEndian.littleEndian LittleEndian.bytesOf
     Sizes.bits Sizes.modulus Sizes.half Sizes.bytes
     Numbers.bit Numbers.bitAt Numbers.residue Numbers.rest Numbers.beyond Numbers.meaning Numbers.signed Numbers.outside Numbers.negative
-    Results.undefinedFlag Results.parity Results.resulting
+    Results.undefinedFlag Results.allUndefined Results.parity Results.resulting
     Word.wordOf Word.flagsOf Word.passes
     Sums.valueOf Sums.carries Sums.adjusts Sums.overflows Sums.flagsOf
     Binary.sumFlags Binary.binaryValue Binary.binaryFlags
     Single.singleValue Single.singleFlags
     Values.masked Values.turnedRight Values.turnedLeft Values.shifted Values.shiftValue
     Changes.carryAfter Changes.overflowOnce Changes.overflowAfter Changes.rotateFlags Changes.changed Changes.flagsAfter Changes.shiftFlags
-    Divide.joined Divide.divided Divide.dividedUnsigned Divide.dividedSigned Divide.unsignedDivision Divide.signedDivision Divide.divisionFlags
+    Divide.joined Divide.divided Divide.dividedUnsigned Divide.dividedSigned Divide.unsignedDivision Divide.signedDivision
     Registers.register Registers.withRegister Registers.withEip Registers.withFlags Registers.holder Registers.lowest Registers.bitsFrom Registers.part Registers.replaced Registers.withPart
     Memory.base Memory.allowed Memory.loadOf Memory.storedOf Memory.storeOf
     Opcodes.ruleOf

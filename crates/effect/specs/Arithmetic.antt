@@ -4,6 +4,7 @@ use Prim.Native.Nat.{ℕ}
 use Rattle.width.specs.declared.Size.{Size}
 use Rattle.width.specs.declared.Size.the-variants.{Byte, Word, Dword}
 use Rattle.flags.specs.declared.Flags.{Flags}
+use Rattle.flags.specs.Results.{allUndefined}
 use Rattle.arith.specs.declared.Binary.{Binary}
 use Rattle.arith.specs.declared.Binary.the-variants.{Add, Or, Adc, Sbb, And, Sub, Xor, Cmp}
 use Rattle.arith.specs.declared.Single.{Single}
@@ -15,7 +16,7 @@ use Rattle.shift.specs.Changes.{shiftFlags}
 use Rattle.product.specs.declared.Division.{Division}
 use Rattle.product.specs.declared.Division.the-variants.{Parts, Fault}
 use Rattle.product.specs.Multiply.{halves, unsignedProduct, signedProduct, unsignedSpills, signedSpills, productFlags}
-use Rattle.product.specs.Divide.{unsignedDivision, signedDivision, divisionFlags}
+use Rattle.product.specs.Divide.{unsignedDivision, signedDivision}
 use Rattle.machine.specs.declared.registers.Machine.{Machine}
 use Rattle.machine.specs.Registers.{part, withPart, withFlags}
 use Rattle.sense.specs.declared.Arithmetic.{Arithmetic}
@@ -96,10 +97,10 @@ multipliedSigned m p b =
     ((halves (p .size) (signedProduct (p .size) (part m (p .size) 0) b)) .low)
     ((halves (p .size) (signedProduct (p .size) (part m (p .size) 0) b)) .high))
 
--- quotient to the accumulator, remainder to the upper half's register
+-- quotient to the accumulator, remainder to the upper half's register; the status flags are undefined
 unfoldable pub quotient : Division → Machine → Plan → Effect
 quotient Fault m p = faults m
-quotient (Parts q r) m p = becomes (doubled (withFlags (onward m p) (divisionFlags (m .flags))) (p .size) q r)
+quotient (Parts q r) m p = becomes (doubled (withFlags (onward m p) (allUndefined (m .flags))) (p .size) q r)
 
 -- 003 "DIV"
 unfoldable pub divided : Machine → Plan → ℕ → Effect

@@ -166,7 +166,7 @@ fn multiplied_signed(m: Machine, p: Plan, b: u32) -> Effect
     becomes(doubled(onward(m, p).with_flags(g), w, n.low, n.high))
 }
 
-// Quotient to the accumulator, remainder to the upper half's register.
+// Quotient to the accumulator, remainder to the upper half's register; the status flags are undefined.
 fn quotient(d: Division, m: Machine, p: Plan) -> Effect
     ensures { λ r. ⌜ r ≡ Op.quotient d m p ⌝ }
 {
@@ -177,7 +177,7 @@ fn quotient(d: Division, m: Machine, p: Plan) -> Effect
         } => {
             let w = p.size;
             let f = m.flags;
-            let g = product::division_flags(f);
+            let g = flags::all_undefined(f);
             becomes(doubled(onward(m, p).with_flags(g), w, q, r))
         }
         Division::Fault => faults(m),

@@ -11,6 +11,19 @@ use Rattle.flags.specs.declared.Flags.{Flags}
 unfoldable pub undefinedFlag : Bool → Bool
 undefinedFlag old = old
 
+-- the status flags all undefined, DF kept
+unfoldable pub allUndefined : Flags → Flags
+allUndefined old =
+    record {
+      cf = undefinedFlag (old .cf);
+      pf = undefinedFlag (old .pf);
+      af = undefinedFlag (old .af);
+      zf = undefinedFlag (old .zf);
+      sf = undefinedFlag (old .sf);
+      df = old .df;
+      of = undefinedFlag (old .of);
+    }
+
 -- an even count of ones in the low 8 bits
 unfoldable pub parity : ℕ → Bool
 parity v = eqb (ones (v % 2 ^ 8) % 2) 0

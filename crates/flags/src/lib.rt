@@ -3,7 +3,7 @@ ghost use mathlib.Core.Path.{_≡_};
 ghost use Prim.Native.Nat.{_*_, _<_};
 ghost use Rattle.flags.specs.Word.{Word, AhWord, flagsOf, passes, fromAh};
 ghost use Rattle.flags.specs.Conditions.{meets};
-ghost use Rattle.flags.specs.Results.{undefinedFlag, parity, resulting};
+ghost use Rattle.flags.specs.Results.{undefinedFlag, allUndefined, parity, resulting};
 use width::Size;
 
 // The status flags and the direction flag.
@@ -73,6 +73,21 @@ pub fn undefined(old: bool) -> bool
     ensures { λ r. ⌜ r ≡ undefinedFlag old ⌝ }
 {
     old
+}
+
+// The status flags all undefined, DF kept.
+pub fn all_undefined(old: Flags) -> Flags
+    ensures { λ r. ⌜ r ≡ allUndefined old ⌝ }
+{
+    Flags {
+        cf: undefined(old.cf),
+        pf: undefined(old.pf),
+        af: undefined(old.af),
+        zf: undefined(old.zf),
+        sf: undefined(old.sf),
+        df: old.df,
+        of: undefined(old.of),
+    }
 }
 
 // Is the count of ones in the low 8 bits even?

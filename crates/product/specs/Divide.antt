@@ -8,8 +8,6 @@ use lib.Signed.{quotZ, remZ}
 use Rattle.width.specs.declared.Size.{Size}
 use Rattle.width.specs.Sizes.{modulus, half}
 use Rattle.width.specs.Numbers.{rest, meaning, signed, outside}
-use Rattle.flags.specs.declared.Flags.{Flags}
-use Rattle.flags.specs.Results.{undefinedFlag}
 use Rattle.product.specs.declared.Division.{Division}
 use Rattle.product.specs.declared.Division.the-variants.{Parts, Fault}
 
@@ -47,16 +45,3 @@ within w (Parts q r) = (q < modulus w) × (r < modulus w)
 pub record Divides (w : Size) (answer r : Division) : Type 0 where
   pub is : r ≡ answer
   pub below : within w r
-
--- DIV and IDIV leave all six status flags undefined
-unfoldable pub divisionFlags : Flags → Flags
-divisionFlags old =
-    record {
-      cf = undefinedFlag (old .cf);
-      pf = undefinedFlag (old .pf);
-      af = undefinedFlag (old .af);
-      zf = undefinedFlag (old .zf);
-      sf = undefinedFlag (old .sf);
-      df = old .df;
-      of = undefinedFlag (old .of);
-    }

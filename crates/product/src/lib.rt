@@ -21,7 +21,6 @@ ghost use Rattle.product.specs.Divide.{
   dividedSigned,
   unsignedDivision,
   signedDivision,
-  divisionFlags,
 };
 use flags::Flags;
 use width::Size;
@@ -261,19 +260,4 @@ pub fn idiv(w: Size, high: u32, low: u32, d: u32) -> Division
     ensures { λ r. ⌜ Divides w (signedDivision w high low d) r ⌝ }
 {
     divided_signed(w, dividend(w, high, low), operand(w, d))
-}
-
-// The flags after a division.
-pub fn division_flags(old: Flags) -> Flags
-    ensures { λ r. ⌜ r ≡ divisionFlags old ⌝ }
-{
-    Flags {
-        cf: flags::undefined(old.cf),
-        pf: flags::undefined(old.pf),
-        af: flags::undefined(old.af),
-        zf: flags::undefined(old.zf),
-        sf: flags::undefined(old.sf),
-        df: old.df,
-        of: flags::undefined(old.of),
-    }
 }

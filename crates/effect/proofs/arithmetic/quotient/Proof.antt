@@ -6,7 +6,7 @@ use Rattle.effect.specs.Arithmetic.{quotient}
 
 returns : tie.Need-returns
 unfolding quotient
-returns c = simp (c .becomes .ensures, c .before .doubled .ensures, c .before .before .with-flags .ensures, c .before .before .before .onward .ensures, c .before .before .before .before .division-flags .ensures, c .before .before .before .before .before .before .before .d .given .1)
+returns c = simp (c .becomes .ensures, c .before .doubled .ensures, c .before .before .with-flags .ensures, c .before .before .before .onward .ensures, c .before .before .before .before .all-undefined .ensures, c .before .before .before .before .before .before .before .d .given .1)
 
 returns-2 : tie.Need-returns-2
 unfolding quotient

@@ -1,11 +1,11 @@
--- `product::division_flags` meets its contract: the undefined flags by the one policy. Assumes nothing.
+-- `flags::all_undefined` meets its contract: each flag by the one policy. Assumes nothing.
 use borrow.Author.Needs.{needs}
-use Rattle.product.proofs.division_flags.Statement.{statement}
-use Rattle.product.proofs.division_flags.Tie as tie
-use Rattle.product.specs.Divide.{divisionFlags}
+use Rattle.flags.proofs.all_undefined.Statement.{statement}
+use Rattle.flags.proofs.all_undefined.Tie as tie
+use Rattle.flags.specs.Results.{allUndefined}
 
 returns : tie.Need-returns
-unfolding divisionFlags
+unfolding allUndefined
 returns c =
     simp (
       c .undefined6 .ensures,
@@ -16,8 +16,8 @@ returns c =
       c .before .before .before .before .before .undefined .ensures,
     )
 
-pub division-flags-spec : {M : Type 1} → statement M
-division-flags-spec =
+pub all-undefined-spec : {M : Type 1} → statement M
+all-undefined-spec =
     tie.close
     (tie.spec
     (λ c κs. search needs)
