@@ -38,8 +38,8 @@ fn bit_at(k: u32, n: u64) -> bool
     (n >> k) % 2 == 1
 }
 
-// The count modulo the size's bits, by which ROL and ROR turn.
-fn of_bits(w: Size, k: u32) -> u32
+// A count modulo the size's bits, by which ROL and ROR turn, and which selects a bit.
+pub fn of_bits(w: Size, k: u32) -> u32
     ensures { λ r. ⌜ Part (bits w) k r ⌝ }
 {
     match w {

@@ -1,0 +1,68 @@
+-- Laws of a number with a bit as given. Assumes nothing.
+use mathlib.Core.Path.{_≡_, refl, ap, _∙_}
+use mathlib.Core.Bool.{Bool}
+use Prim.Native.Nat.{ℕ, zero, suc, _+_, _-_, _*_, _/_, _%_, _^_, _<_, _≤_}
+use native.Mathlib.Nat.{mod-lt, add-comm}
+use native.Mathlib.Omega.{arith}
+use lib.Arith.{digits-lt}
+use lib.Dec.{eqb}
+use lib.Pow.{pow-pos, pow-add, split, mod-pow-add, shl-exact, shr-lt}
+use Rattle.width.specs.Numbers.{bit, Bit, bitAt}
+use Rattle.bits.specs.Tests.{withBit}
+
+-- a binary digit is the number of its truth value
+digit : (d : ℕ) → d < 2 → bit (eqb d 1) ≡ d
+unfolding bit
+digit zero h = refl
+digit (suc zero) h = refl
+digit (suc (suc d)) h = absurd (omega arith)
+
+-- a number has each of its bits as it is
+pub as-it-is : (k v : ℕ) → withBit k v (bitAt k v) ≡ v
+unfolding withBit bitAt
+as-it-is k v =
+    let low : v % 2 ^ (k + 1) ≡ v / 2 ^ k % 2 * 2 ^ k + v % 2 ^ k = rw (add-comm k 1) (mod-pow-add v 1 k)
+    in
+    rw (digit (v / 2 ^ k % 2) (mod-lt (v / 2 ^ k) (omega arith))) (omega (arith, low, split v (k + 1)))
+
+module _ (k v n : ℕ) (b : Bool) (h : k < 32) (l : v < 2 ^ 32) (new : Bit b n) where
+  -- the new bit in its place
+  new-is : n * 2 ^ k % 2 ^ 64 ≡ bit b * 2 ^ k
+  new-is = shl-exact 1 k 64 (new .below) (omega arith) ∙ ap (λ (x : ℕ). x * 2 ^ k) (new .is)
+
+  -- 32 bits hold the number with either bit
+  pub still-below : withBit k v b < 2 ^ 32
+  unfolding withBit
+  still-below =
+      let low : bit b * 2 ^ k + v % 2 ^ k < 2 * 2 ^ k = digits-lt (omega arith) (mod-lt v (pow-pos k))
+      in
+      let twice : 2 ^ (k + 1) ≡ 2 ^ k * 2 = pow-add 2 k 1
+      in
+      let joined : 31 - k + (k + 1) ≡ 32 = omega arith
+      in
+      let high : v / 2 ^ (k + 1) < 2 ^ (31 - k) = shr-lt (31 - k) (k + 1) (rw joined l)
+      in
+      let all : v / 2 ^ (k + 1) * 2 ^ (k + 1) + (bit b * 2 ^ k + v % 2 ^ k) < 2 ^ 32 =
+      rw (← ap (λ (x : ℕ). 2 ^ x) joined, pow-add 2 (31 - k) (k + 1)) (digits-lt high (omega arith))
+      in
+      omega arith
+
+  -- and 64 the number with both
+  pub fits : v + n * 2 ^ k % 2 ^ 64 < 2 ^ 64
+  unfolding withBit
+  fits = rw new-is (omega (arith, still-below))
+
+  module _ (o : ℕ) (old : Bit (bitAt k v) o) where
+    -- the old bit in its place
+    old-is : o * 2 ^ k % 2 ^ 64 ≡ bit (bitAt k v) * 2 ^ k
+    old-is = shl-exact 1 k 64 (old .below) (omega arith) ∙ ap (λ (x : ℕ). x * 2 ^ k) (old .is)
+
+    -- it is one of those that are there
+    pub held : o * 2 ^ k % 2 ^ 64 ≤ v + n * 2 ^ k % 2 ^ 64
+    unfolding withBit
+    held = rw old-is (omega (arith, as-it-is k v))
+
+    -- the old bit out, the new one in
+    pub exchanged : v + n * 2 ^ k % 2 ^ 64 - o * 2 ^ k % 2 ^ 64 ≡ withBit k v b
+    unfolding withBit
+    exchanged = rw (old-is, new-is) (omega (arith, as-it-is k v))
