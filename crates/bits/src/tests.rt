@@ -6,7 +6,7 @@ use width::Size;
 ghost use mathlib.Core.Path.{_≡_};
 ghost use Prim.Native.Nat.{_<_};
 ghost use Rattle.bits.specs.Tests.{withBit, bitAfter, testValue, testFlags, unitAddress};
-ghost use Rattle.bits.specs.Parts.{Units};
+ghost use Rattle.bits.specs.Parts.{Below, Units};
 
 // A number with its bit k as given: the old bit out, the new one in.
 fn with_bit(k: u32, v: u32, b: bool) -> u32
@@ -45,6 +45,17 @@ pub fn test_flags(w: Size, v: u32, offset: u32, old: Flags) -> Flags
     f
 }
 
+// How far a number's signed meaning lies below it: nothing, or all the numbers of the size.
+fn below(w: Size, v: u32) -> u64
+    ensures { λ r. ⌜ Below w v r ⌝ }
+{
+    if width::negative(w, v) {
+        width::modulus(w)
+    } else {
+        0
+    }
+}
+
 // How many bytes the units take that so many bits fill.
 fn units(w: Size, n: u64) -> u64
     ensures { λ r. ⌜ Units w n r ⌝ }
@@ -60,9 +71,7 @@ fn units(w: Size, n: u64) -> u64
 pub fn unit_address(w: Size, a: u32, offset: u32) -> u32
     ensures { λ r. ⌜ r ≡ unitAddress w a offset ⌝ }
 {
-    let back = units(w, width::half(w) as u64);
-    width::low(
-        Size::Dword,
-        a as u64 + units(w, width::rank(w, offset)) + 0x2_0000_0000 - back,
-    )
+    let back = units(w, below(w, offset));
+    let on = units(w, offset as u64);
+    width::low(Size::Dword, a as u64 + on + 0x2_0000_0000 - back)
 }

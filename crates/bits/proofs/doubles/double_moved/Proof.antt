@@ -20,14 +20,12 @@ returns c =
     rw (
       c .before .before .before .enum-told .given .1,
       upper-half _ _ _ (c .before .before .before .before .before .pre .1 .1),
-      ← c .before .before .double .ensures,
-      ← c .before .bits .ensures,
     )
-    (c .low .ensures)
+    (rw (c .before .before .double .ensures, c .before .bits .ensures) at (c .low .ensures))
 
 returns-2 : tie.Need-returns-2
 unfolding doubleMoved residue rest
-returns-2 c = rw (c .before .before .enum-told2 .given .1, ← c .before .double2 .ensures) (c .low2 .ensures)
+returns-2 c = rw (c .before .before .enum-told2 .given .1) (rw (c .before .double2 .ensures) at (c .low2 .ensures))
 
 pub double-moved-spec : {M : Type 1} → statement M
 double-moved-spec =
