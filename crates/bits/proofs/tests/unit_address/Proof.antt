@@ -6,8 +6,11 @@ use Rattle.bits.proofs.tests.unit_address.Tie as tie
 
 returns : tie.Need-returns
 returns c =
+    let a = c .before .before .before .before .args
+    in
     rw (c .low .ensures .is)
-    (unit-of _ _ _ _ _ _ (c .before .before .before .below .ensures) (c .before .units2 .ensures) (c .before .before .units .ensures))
+    (unit-of (a .w) (a .a) (a .offset) _ _ _ (c .before .before .before .below .ensures) (c .before .units2 .ensures)
+    (c .before .before .units .ensures))
 
 pub unit-address-spec : {M : Type 1} → statement M
 unit-address-spec =
