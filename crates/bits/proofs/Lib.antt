@@ -1,5 +1,8 @@
 -- The laws of `bits`. Assumes nothing.
-pub mod Places
+pub mod Bits
+pub mod GivenBits
+pub mod Exchanges
 pub mod Units
 pub mod Ones
 pub mod Moved
+pub mod Sources

@@ -1,6 +1,6 @@
 -- `bits::tests::with_bit` meets its contract: the old bit out, the new one in. Assumes nothing.
 use borrow.Author.Needs.{needs}
-use Rattle.bits.proofs.Places.{held, exchanged, still-below, fits}
+use Rattle.bits.proofs.Exchanges.{held, exchanged, still-below, fits}
 use Rattle.bits.proofs.tests.with_bit.Statement.{statement}
 use Rattle.bits.proofs.tests.with_bit.Tie as tie
 

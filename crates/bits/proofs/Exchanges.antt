@@ -1,29 +1,14 @@
--- Laws of a number with a bit as given. Assumes nothing.
-use mathlib.Core.Path.{_≡_, refl, ap, _∙_}
+-- A number with a bit as given, by taking the old bit out and the new one in. Assumes nothing.
+use mathlib.Core.Path.{_≡_, ap, _∙_}
 use mathlib.Core.Bool.{Bool}
-use Prim.Native.Nat.{ℕ, zero, suc, _+_, _-_, _*_, _/_, _%_, _^_, _<_, _≤_}
-use native.Mathlib.Nat.{mod-lt, add-comm}
+use Prim.Native.Nat.{ℕ, _+_, _-_, _*_, _/_, _%_, _^_, _<_, _≤_}
+use native.Mathlib.Nat.{mod-lt}
 use native.Mathlib.Omega.{arith}
 use lib.Arith.{digits-lt}
-use lib.Dec.{eqb}
-use lib.Pow.{pow-pos, pow-add, split, mod-pow-add, shl-exact, shr-lt}
+use lib.Pow.{pow-pos, pow-add, shl-exact, shr-lt}
 use Rattle.width.specs.Numbers.{bit, Bit, bitAt}
 use Rattle.bits.specs.Tests.{withBit}
-
--- a binary digit is the number of its truth value
-digit : (d : ℕ) → d < 2 → bit (eqb d 1) ≡ d
-unfolding bit
-digit zero h = refl
-digit (suc zero) h = refl
-digit (suc (suc d)) h = absurd (omega arith)
-
--- a number has each of its bits as it is
-pub as-it-is : (k v : ℕ) → withBit k v (bitAt k v) ≡ v
-unfolding withBit bitAt
-as-it-is k v =
-    let low : v % 2 ^ (k + 1) ≡ v / 2 ^ k % 2 * 2 ^ k + v % 2 ^ k = rw (add-comm k 1) (mod-pow-add v 1 k)
-    in
-    rw (digit (v / 2 ^ k % 2) (mod-lt (v / 2 ^ k) (omega arith))) (omega (arith, low, split v (k + 1)))
+use Rattle.bits.proofs.GivenBits.{as-it-is, few-left}
 
 module _ (k v n : ℕ) (b : Bool) (h : k < 32) (l : v < 2 ^ 32) (new : Bit b n) where
   -- the new bit in its place
@@ -34,16 +19,12 @@ module _ (k v n : ℕ) (b : Bool) (h : k < 32) (l : v < 2 ^ 32) (new : Bit b n) 
   pub still-below : withBit k v b < 2 ^ 32
   unfolding withBit
   still-below =
-      let low : bit b * 2 ^ k + v % 2 ^ k < 2 * 2 ^ k = digits-lt (omega arith) (mod-lt v (pow-pos k))
-      in
-      let twice : 2 ^ (k + 1) ≡ 2 ^ k * 2 = pow-add 2 k 1
-      in
       let joined : 31 - k + (k + 1) ≡ 32 = omega arith
       in
       let high : v / 2 ^ (k + 1) < 2 ^ (31 - k) = shr-lt (31 - k) (k + 1) (rw joined l)
       in
       let all : v / 2 ^ (k + 1) * 2 ^ (k + 1) + (bit b * 2 ^ k + v % 2 ^ k) < 2 ^ 32 =
-      rw (← ap (λ (x : ℕ). 2 ^ x) joined, pow-add 2 (31 - k) (k + 1)) (digits-lt high (omega arith))
+      rw (← ap (λ (x : ℕ). 2 ^ x) joined, pow-add 2 (31 - k) (k + 1)) (digits-lt high (few-left k v b))
       in
       omega arith
 
