@@ -9,7 +9,9 @@ use Rattle.width.specs.Numbers.{bitAt}
 -- the low digits have the bits of the number
 pub bit-of-low : (j k n : ℕ) → j < k → bitAt j (n % 2 ^ k) ≡ bitAt j n
 unfolding bitAt
-bit-of-low j k n h = ap (λ (x : ℕ). eqb x 1) (ap (λ (x : ℕ). n % 2 ^ x / 2 ^ j % 2) more ∙ ap (λ (x : ℕ). x % 2) (field n (k - j) j) ∙ one)
+bit-of-low j k n h =
+    ap (λ (x : ℕ). eqb x 1)
+    (ap (λ (x : ℕ). n % 2 ^ x / 2 ^ j % 2) more ∙ ap (λ (x : ℕ). x % 2) (field n (k - j) j) ∙ one)
   where
     more : k ≡ k - j + j
     more = omega arith

@@ -2,10 +2,9 @@
 use mathlib.Core.Path.{_≡_, ap, _∙_}
 use mathlib.Core.Bool.{Bool}
 use Prim.Native.Nat.{ℕ, _+_, _-_, _*_, _/_, _%_, _^_, _<_, _≤_}
-use native.Mathlib.Nat.{mod-lt}
 use native.Mathlib.Omega.{arith}
 use lib.Arith.{digits-lt}
-use lib.Pow.{pow-pos, pow-add, shl-exact, shr-lt}
+use lib.Pow.{pow-add, shl-exact, shr-lt}
 use Rattle.width.specs.Numbers.{bit, Bit, bitAt}
 use Rattle.bits.specs.Tests.{withBit}
 use Rattle.bits.proofs.GivenBits.{as-it-is, few-left}

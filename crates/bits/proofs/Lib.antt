@@ -6,3 +6,4 @@ pub mod Units
 pub mod Ones
 pub mod Moved
 pub mod Sources
+pub mod Cases

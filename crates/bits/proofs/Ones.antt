@@ -37,7 +37,10 @@ lowest (suc d) v h l = by (v % 2) refl (λ p. lowest d (v / 2) p (shr-lt d 1 (rw
     zeros t e half zero i = first v ∙ ne-eqb (v % 2) 1 (λ f. omega arith)
     zeros t e half (suc j) i = next j v ∙ half .zeros j (omega arith)
 
-    by : (r : ℕ) → v % 2 ≡ r → (0 < v / 2 → Lowest (v / 2) (trailingZeros d (v / 2))) → Lowest v (under r (trailingZeros d (v / 2)))
+    by : (r : ℕ)
+        → v % 2 ≡ r
+        → (0 < v / 2 → Lowest (v / 2) (trailingZeros d (v / 2)))
+        → Lowest v (under r (trailingZeros d (v / 2)))
     by zero e half =
         let low = half (omega arith)
         in

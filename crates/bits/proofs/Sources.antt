@@ -1,6 +1,6 @@
 -- What a double shift leaves, bit by bit: 003's Operation of SHLD and SHRD. Assumes nothing.
-use mathlib.Core.Path.{_≡_, sym, ap, _∙_}
-use Prim.Native.Nat.{ℕ, _+_, _-_, _*_, _/_, _%_, _^_, _<_, _≤_}
+use mathlib.Core.Path.{_≡_, ap, _∙_}
+use Prim.Native.Nat.{ℕ, _+_, _-_, _*_, _/_, _^_, _<_, _≤_}
 use native.Mathlib.Nat.{mod-eq-of-lt, mul-one, div-one}
 use native.Mathlib.Omega.{arith}
 use lib.Pow.{high, low, shl-shr}

@@ -1,7 +1,7 @@
 -- Laws of the unit that holds a bit. Assumes nothing.
 use mathlib.Core.Path.{_≡_, refl, sym, ap, _∙_}
 use mathlib.Core.Bool.{true, false}
-use Prim.Native.Nat.{ℕ, suc, _+_, _-_, _*_, _/_, _^_, _≤_}
+use Prim.Native.Nat.{ℕ, suc, _+_, _-_, _*_, _/_, _^_}
 use native.Mathlib.Nat.{mul-add, zero-add, zero-mul, zero-div}
 use native.Mathlib.Omega.{arith}
 use lib.IntN.{ℤ, pos, subℕ, _*ℤ_, pos-*ℤ-pos, pos-*ℤ-negsuc}
@@ -80,11 +80,23 @@ module _ (w : Size) (v : ℕ) where
       }
 
 -- the unit of a signed number's bit, from address a
-pub unit-of : (w : Size) (a v r p q : ℕ) → Below w v r → Units w v p → Units w r q → rest Dword (pos (a + p + 2 ^ 33 - q)) ≡ unitAddress w a v
+pub unit-of : (w : Size) (a v r p q : ℕ)
+    → Below w v r
+    → Units w v p
+    → Units w r q
+    → rest Dword (pos (a + p + 2 ^ 33 - q)) ≡ unitAddress w a v
 unfolding unitAddress
 unit-of w a v r p q under on back =
     let down : shrZ (signed w v) (bits w) ≡ subℕ (v / bits w) (r / bits w) =
     ap (λ (z : ℤ). shrZ z (bits w)) (under .meant ∙ ap (subℕ v) (under .multiple)) ∙ rounded w v (r / bits w)
     in
     lifted Dword (a + p) q (omega arith)
-    ∙ sym (rw (down, times (bytes w) (v / bits w) (r / bits w), ← on .is, ← back .is, natural a, added a 0 p q, zero-add))
+    ∙ sym (rw (
+      down,
+      times (bytes w) (v / bits w) (r / bits w),
+      ← on .is,
+      ← back .is,
+      natural a,
+      added a 0 p q,
+      zero-add,
+    ))

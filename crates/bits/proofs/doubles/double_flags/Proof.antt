@@ -1,4 +1,4 @@
--- `bits::doubles::double_flags` meets its contract: count 0 changes nothing, over the width all are undefined. Assumes nothing.
+-- `bits::doubles::double_flags` meets its contract: count 0 changes none, over the width all are undefined. Assumes nothing.
 use borrow.Author.Needs.{needs}
 use borrow.Author.Tests.{eq-eqb, ne-eqb, le-leb, lt-leb}
 use Rattle.shift.specs.Values.{masked}

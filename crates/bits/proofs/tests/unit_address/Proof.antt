@@ -1,4 +1,4 @@
--- `bits::tests::unit_address` meets its contract: the units that the offset fills, less those that its signed meaning lies below it. Assumes nothing.
+-- `bits::tests::unit_address` meets its contract: whole units on, and whole units back. Assumes nothing.
 use borrow.Author.Needs.{needs}
 use Rattle.bits.proofs.Units.{unit-of}
 use Rattle.bits.proofs.tests.unit_address.Statement.{statement}
