@@ -1,15 +1,10 @@
 -- What the parts of a shift give, each with its bound, for the contracts of private functions alone. Assumes nothing.
 use mathlib.Core.Path.{_≡_}
 use mathlib.Core.Bool.{Bool}
-use Prim.Native.Nat.{ℕ, _+_, _%_, _^_, _<_}
+use Prim.Native.Nat.{ℕ, _+_, _^_, _<_}
 use Rattle.width.specs.declared.Size.{Size}
 use Rattle.width.specs.Sizes.{bits}
 use Rattle.shift.specs.Values.{turnedRight, withCarry}
-
--- r is the count k modulo b
-pub record Part (b k r : ℕ) : Type 0 where
-  pub is : r ≡ k % b
-  pub below : r < b
 
 -- r is x turned right by k, a number of b bits
 pub record Turned (b k x r : ℕ) : Type 0 where

@@ -1,6 +1,7 @@
 -- What shifts and rotates give: 003 "SAL/SAR/SHL/SHR" and "RCL/RCR/ROL/ROR". Assumes nothing.
+use mathlib.Core.Path.{_≡_}
 use mathlib.Core.Bool.{Bool}
-use Prim.Native.Nat.{ℕ, _+_, _-_, _*_, _/_, _%_, _^_}
+use Prim.Native.Nat.{ℕ, _+_, _-_, _*_, _/_, _%_, _^_, _<_}
 use lib.IntN.{pos}
 use lib.Signed.{shrZ}
 use Rattle.width.specs.declared.Size.{Size}
@@ -12,6 +13,11 @@ use Rattle.shift.specs.declared.Shift.the-variants.{Rol, Ror, Rcl, Rcr, 
 -- counts are taken modulo 32
 unfoldable pub masked : ℕ → ℕ
 masked count = count % 32
+
+-- r is the count k modulo b
+pub record Part (b k r : ℕ) : Type 0 where
+  pub is : r ≡ k % b
+  pub below : r < b
 
 -- a number of b bits, turned right by k: its low k bits go to the top
 unfoldable pub turnedRight : ℕ → ℕ → ℕ → ℕ

@@ -5,7 +5,7 @@ ghost use lib.IntN.{pos};
 ghost use lib.Signed.{shrZ};
 ghost use Rattle.width.specs.Sizes.{bits, modulus};
 ghost use Rattle.width.specs.Numbers.{Is, bitAt, rest, signed};
-ghost use Rattle.shift.specs.Values.{turnedRight, withCarry, throughLeft, throughRight, shifted, shiftValue};
+ghost use Rattle.shift.specs.Values.{Part, turnedRight, withCarry, throughLeft, throughRight, shifted, shiftValue};
 ghost use Rattle.shift.specs.Changes.{
   unlessAllOut,
   carryAfter,
@@ -15,7 +15,7 @@ ghost use Rattle.shift.specs.Changes.{
   flagsAfter,
   shiftFlags,
 };
-ghost use Rattle.shift.specs.Parts.{Part, Turned, Carried};
+ghost use Rattle.shift.specs.Parts.{Turned, Carried};
 use flags::Flags;
 use width::Size;
 
