@@ -21,16 +21,14 @@ pub fn move_reads(op: Move, p: Plan, a: u32) -> Reads
     ensures { λ r. ⌜ r ≡ M.moveReads op p a ⌝ }
 {
     let w = p.size;
+    let d = p.destination;
     let s = p.source;
     match op {
         Move::Mov => words::read_of(s, a, w),
         Move::MovZero(from) => words::read_of(s, a, from),
         Move::MovSign(from) => words::read_of(s, a, from),
         Move::Lea => Reads::Nothing,
-        Move::Xchg => {
-            let d = p.destination;
-            words::read_of(d, a, w)
-        }
+        Move::Xchg => words::read_of(d, a, w),
         Move::Convert => Reads::Nothing,
         Move::Spread => Reads::Nothing,
         Move::Bswap => Reads::Nothing,
@@ -38,47 +36,6 @@ pub fn move_reads(op: Move, p: Plan, a: u32) -> Reads
         Move::Lahf => Reads::Nothing,
         Move::Sahf => Reads::Nothing,
     }
-}
-
-// DEST ← v.
-fn placed(m: Machine, p: Plan, a: u32, v: u32) -> Effect
-    ensures { λ e. ⌜ e ≡ W.assign (p .destination) a (W.onward m p) (p .size) v ⌝ }
-{
-    let d = p.destination;
-    let w = p.size;
-    words::assign(d, a, words::onward(m, p), w, v)
-}
-
-// MOV and MOVZX: DEST ← SRC, a number of the size `from`.
-fn moved(m: Machine, p: Plan, a: u32, r: u32, from: Size) -> Effect
-    ensures { λ e. ⌜ e ≡ W.assign (p .destination) a (W.onward m p) (p .size) (W.value (p .source) m r from) ⌝ }
-{
-    let s = p.source;
-    placed(m, p, a, words::value(s, m, r, from))
-}
-
-// MOVSX: DEST ← SRC, extended by sign.
-fn extended(m: Machine, p: Plan, a: u32, r: u32, from: Size) -> Effect
-    ensures { λ e. ⌜
-        e ≡ W.assign (p .destination) a (W.onward m p) (p .size)
-        (signExtended from (p .size) (W.value (p .source) m r from))
-        ⌝ }
-{
-    let s = p.source;
-    let w = p.size;
-    placed(
-        m,
-        p,
-        a,
-        width::sign_extended(from, w, words::value(s, m, r, from)),
-    )
-}
-
-// LEA: DEST ← the effective address of SRC.
-fn addressed(m: Machine, p: Plan, a: u32) -> Effect
-    ensures { λ e. ⌜ e ≡ W.assign (p .destination) a (W.onward m p) (p .size) a ⌝ }
-{
-    placed(m, p, a, a)
 }
 
 // DEST ← y and SRC ← x.
@@ -134,25 +91,6 @@ fn spread(m: Machine, p: Plan) -> Effect
     words::becomes(words::onward(m, p).with_part(w, 2, v))
 }
 
-// BSWAP: the register's bytes in the opposite order.
-fn turned(m: Machine, p: Plan, a: u32, r: u32) -> Effect
-    ensures { λ e. ⌜
-        e ≡ W.assign (p .destination) a (W.onward m p) (p .size) (reversed (W.value (p .destination) m r (p .size)))
-        ⌝ }
-{
-    let d = p.destination;
-    let w = p.size;
-    placed(m, p, a, width::reversed(words::value(d, m, r, w)))
-}
-
-// SETcc: DEST ← 1 if the condition is met, else 0.
-fn tested(m: Machine, p: Plan, a: u32, n: u32) -> Effect
-    ensures { λ e. ⌜ e ≡ W.assign (p .destination) a (W.onward m p) (p .size) (bit (meets n (m .flags))) ⌝ }
-{
-    let f = m.flags;
-    placed(m, p, a, width::bit(flags::meets(n, f)) as u32)
-}
-
 // LAHF: AH ← the flags.
 fn ah_loaded(m: Machine, p: Plan) -> Effect
     ensures { λ e. ⌜ e ≡ W.becomes (withPart (W.onward m p) Size.Byte 4 (ahOf (m .flags))) ⌝ }
@@ -171,26 +109,35 @@ fn ah_stored(m: Machine, p: Plan) -> Effect
     words::becomes(words::onward(m, p).with_flags(f))
 }
 
+// SETcc: 1 if the condition is met, else 0.
+fn told(n: u32, f: Flags) -> u32
+    ensures { λ r. ⌜ r ≡ bit (meets n f) ⌝ }
+{
+    width::bit(flags::meets(n, f)) as u32
+}
+
 // What the operation does.
 pub fn move_effect(op: Move, m: Machine, p: Plan, a: u32, r: u32) -> Effect
     ensures { λ e. ⌜ e ≡ M.moveEffect op m p a r ⌝ }
 {
-    match op {
-        Move::Mov => {
-            let w = p.size;
-            moved(m, p, a, r, w)
-        }
-        Move::MovZero(from) => moved(m, p, a, r, from),
-        Move::MovSign(from) => extended(m, p, a, r, from),
-        Move::Lea => addressed(m, p, a),
-        Move::Xchg => swapped(m, p, a, r),
-        Move::Convert => converted(m, p),
-        Move::Spread => spread(m, p),
-        Move::Bswap => turned(m, p, a, r),
-        Move::Set(n) => tested(m, p, a, n),
-        Move::Lahf => ah_loaded(m, p),
-        Move::Sahf => ah_stored(m, p),
-    }
+    let w = p.size;
+    let d = p.destination;
+    let s = p.source;
+    let f = m.flags;
+    let v = match op {
+        Move::Mov => words::value(s, m, r, w),
+        Move::MovZero(from) => words::value(s, m, r, from),
+        Move::MovSign(from) => width::sign_extended(from, w, words::value(s, m, r, from)),
+        Move::Lea => a,
+        Move::Xchg => return swapped(m, p, a, r),
+        Move::Convert => return converted(m, p),
+        Move::Spread => return spread(m, p),
+        Move::Bswap => width::reversed(words::value(d, m, r, w)),
+        Move::Set(n) => told(n, f),
+        Move::Lahf => return ah_loaded(m, p),
+        Move::Sahf => return ah_stored(m, p),
+    };
+    words::assign(d, a, words::onward(m, p), w, v)
 }
 
 // The flags with another CF.
