@@ -1,6 +1,6 @@
 //! Calculations at any width, each with what 003 says of the flags.
 
-use crate::decode::Shift;
+use crate::decode::{BitTest, DoubleShift, Scan, Shift};
 use crate::machine::{FlagEffect, Width, AF, CF, OF, PF, SF, STATUS, ZF};
 
 /// The flag if the condition holds, else nothing.
@@ -164,4 +164,63 @@ pub fn shift(kind: Shift, value: u32, count: u32, carry: bool, width: Width) -> 
     }
     effect.written &= !effect.undefined;
     (result, effect)
+}
+
+/// Shift of the double number that both values make, one bit at a time, or nothing if the count is over the width and
+/// 003 leaves the result undefined (003: SHLD, SHRD; document 02, M-100 for a count of exactly the width).
+pub fn double_shift(kind: DoubleShift, value: u32, filler: u32, count: u32, width: Width) -> (Option<u32>, FlagEffect) {
+    let count = count & 31;
+    let (mask, sign) = (width.mask(), width.sign());
+    let start = value & mask;
+    if count == 0 {
+        return (Some(start), FlagEffect::default());
+    }
+    if count > width.bits() {
+        return (None, FlagEffect { written: 0, values: 0, undefined: STATUS });
+    }
+    let (mut result, mut filler, mut carry) = (start, filler & mask, false);
+    for _ in 0..count {
+        (result, filler, carry) = match kind {
+            DoubleShift::Shld => {
+                ((result << 1) & mask | when(filler & sign != 0, 1), (filler << 1) & mask, result & sign != 0)
+            }
+            DoubleShift::Shrd => (result >> 1 | when(filler & 1 != 0, sign), filler >> 1, result & 1 != 0),
+        };
+    }
+    let overflow = (start ^ result) & sign != 0;
+    let undefined = if count == 1 { AF } else { AF | OF };
+    let values = result_flags(result, width) | when(carry, CF) | when(overflow, OF);
+    (Some(result), FlagEffect { written: STATUS & !undefined, values, undefined })
+}
+
+/// How many bytes from the bit base the operand-sized unit lies that holds the bit at a signed offset, and the bit's
+/// place in that unit (003: BT).
+pub fn bit_place(offset: u32, width: Width) -> (u32, u32) {
+    let (offset, bits) = (width.signed(offset), i64::from(width.bits()));
+    let unit = offset.div_euclid(bits);
+    ((unit * i64::from(width.bytes())) as u32, offset.rem_euclid(bits) as u32)
+}
+
+/// CF is the bit as it was; OF, SF, ZF, AF and PF undefined (003: BT, BTC, BTR, BTS).
+pub fn bit_test(kind: BitTest, value: u32, bit: u32) -> (u32, FlagEffect) {
+    let mask = 1 << bit;
+    let result = match kind {
+        BitTest::Bt => value,
+        BitTest::Bts => value | mask,
+        BitTest::Btr => value & !mask,
+        BitTest::Btc => value ^ mask,
+    };
+    (result, FlagEffect { written: CF, values: when(value & mask != 0, CF), undefined: STATUS & !CF })
+}
+
+/// Index of the lowest or highest bit set, or nothing if no bit is and 003 leaves the result undefined; CF, OF, SF, AF
+/// and PF undefined (003: BSF, BSR).
+pub fn scan(kind: Scan, value: u32, width: Width) -> (Option<u32>, FlagEffect) {
+    let mut bits = 0..width.bits();
+    let is_set = |bit: &u32| value & (1 << bit) != 0;
+    let index = match kind {
+        Scan::Bsf => bits.find(is_set),
+        Scan::Bsr => bits.rfind(is_set),
+    };
+    (index, FlagEffect { written: ZF, values: when(index.is_none(), ZF), undefined: STATUS & !ZF })
 }

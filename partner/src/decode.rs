@@ -26,6 +26,13 @@ pub struct Address {
     pub displacement: u32,
 }
 
+impl Address {
+    /// The operand so many bytes further on.
+    pub fn moved(self, by: u32) -> Self {
+        Address { displacement: self.displacement.wrapping_add(by), ..self }
+    }
+}
+
 /// Something an instruction reads or writes.
 #[derive(Clone, Copy, PartialEq, Eq, Debug)]
 pub enum Operand {
@@ -57,6 +64,29 @@ pub enum Shift {
     Shl,
     Shr,
     Sar,
+}
+
+/// The four bit tests.
+#[derive(Clone, Copy, PartialEq, Eq, Debug)]
+pub enum BitTest {
+    Bt,
+    Bts,
+    Btr,
+    Btc,
+}
+
+/// The two bit scans.
+#[derive(Clone, Copy, PartialEq, Eq, Debug)]
+pub enum Scan {
+    Bsf,
+    Bsr,
+}
+
+/// The two double precision shifts.
+#[derive(Clone, Copy, PartialEq, Eq, Debug)]
+pub enum DoubleShift {
+    Shld,
+    Shrd,
 }
 
 /// The four instructions that look at ECX and jump.
@@ -121,6 +151,11 @@ pub enum Operation {
     Idiv(Operand),
     /// Shift or rotate; the count is an immediate or CL.
     Shift(Shift, Operand, Operand),
+    /// SHLD or SHRD: destination, register that gives the bits, count (an immediate or CL).
+    DoubleShift(DoubleShift, Operand, u8, Operand),
+    /// Bit test: bit base and bit offset (an immediate or a register).
+    BitTest(BitTest, Operand, Operand),
+    Scan(Scan, u8, Operand),
     Push(Operand),
     Pop(u8),
     Leave,
@@ -133,6 +168,8 @@ pub enum Operation {
     Loop(Loop, u32),
     /// SETcc with its condition number.
     Setcc(u8, Operand),
+    /// CMOVcc with its condition number.
+    Cmov(u8, u8, Operand),
     Bswap(u8),
     /// CBW or CWDE.
     ExtendAccumulator,
@@ -180,7 +217,9 @@ impl Instruction {
             Operation::Movzx(_, from, _) | Operation::Movsx(_, from, _) => vec![from],
             Operation::Inc(one) | Operation::Dec(one) | Operation::Not(one) | Operation::Neg(one) => vec![one],
             Operation::Mul(one) | Operation::ImulWide(one) | Operation::Div(one) | Operation::Idiv(one) => vec![one],
-            Operation::Shift(_, to, _) | Operation::Setcc(_, to) => vec![to],
+            Operation::Shift(_, to, _) | Operation::DoubleShift(_, to, ..) | Operation::Setcc(_, to) => vec![to],
+            Operation::BitTest(_, base, _) => vec![base],
+            Operation::Scan(_, _, from) | Operation::Cmov(_, _, from) => vec![from],
             Operation::Push(from) => vec![from],
             Operation::Call(Target::Absolute(operand)) | Operation::Jmp(Target::Absolute(operand)) => vec![operand],
             _ => vec![],
@@ -271,7 +310,7 @@ struct ModRm {
     rm: Operand,
 }
 
-/// Where prefix 66 is allowed, by document 01; FF is narrowed by its reg field later.
+/// Where prefix 66 is allowed, by documents 01 and 02; FF is narrowed by its reg field later.
 fn allows_word(opcode: u16) -> bool {
     match opcode {
         0x00..=0x3F => matches!(opcode & 7, 1 | 3 | 5),
@@ -279,6 +318,7 @@ fn allows_word(opcode: u16) -> bool {
         0xA1 | 0xA3 | 0xA5 | 0xA7 | 0xA9 | 0xAB | 0xAD | 0xAF | 0xB8..=0xBF => true,
         0xC1 | 0xC7 | 0xD1 | 0xD3 | 0xF7 | 0xFF => true,
         0x0FAF | 0x0FB6 | 0x0FBE => true,
+        0x0F40..=0x0F4F | 0x0FA3..=0x0FA5 | 0x0FAB..=0x0FAD | 0x0FB3 | 0x0FBA..=0x0FBD => true,
         _ => false,
     }
 }
@@ -315,6 +355,16 @@ fn shift(number: u8) -> Shift {
         4 => Shift::Shl,
         5 => Shift::Shr,
         _ => Shift::Sar,
+    }
+}
+
+/// The bit test with this number in opcode bits 3 and 4 or in the low bits of the reg field.
+fn bit_test(number: u8) -> BitTest {
+    match number & 3 {
+        0 => BitTest::Bt,
+        1 => BitTest::Bts,
+        2 => BitTest::Btr,
+        _ => BitTest::Btc,
     }
 }
 
@@ -516,8 +566,22 @@ fn body(reader: &mut Reader, opcode: u16, word: bool) -> Result<(Width, Operatio
             };
             (full, operation)
         }
+        0x0F40..=0x0F4F => {
+            let m = reader.modrm()?;
+            (full, Operation::Cmov(condition, m.reg, m.rm))
+        }
         0x0F80..=0x0F8F => (Dword, Operation::Jcc(condition, reader.immediate(Dword)?)),
         0x0F90..=0x0F9F => (Byte, Operation::Setcc(condition, reader.modrm()?.rm)),
+        0x0FA3 | 0x0FAB | 0x0FB3 | 0x0FBB => {
+            let m = reader.modrm()?;
+            (full, Operation::BitTest(bit_test((opcode >> 3) as u8), m.rm, Register(m.reg)))
+        }
+        0x0FA4 | 0x0FA5 | 0x0FAC | 0x0FAD => {
+            let m = reader.modrm()?;
+            let kind = if opcode < 0x0FA8 { DoubleShift::Shld } else { DoubleShift::Shrd };
+            let count = if opcode & 1 == 0 { Immediate(reader.immediate(Byte)?) } else { Register(ECX) };
+            (full, Operation::DoubleShift(kind, m.rm, m.reg, count))
+        }
         0x0FAF => {
             let m = reader.modrm()?;
             (full, Operation::Imul(m.reg, Register(m.reg), m.rm))
@@ -528,6 +592,16 @@ fn body(reader: &mut Reader, opcode: u16, word: bool) -> Result<(Width, Operatio
             let operation =
                 if opcode < 0x0FB8 { Operation::Movzx(m.reg, m.rm, from) } else { Operation::Movsx(m.reg, m.rm, from) };
             (full, operation)
+        }
+        0x0FBA => {
+            let m = reader.modrm_with(|reg| reg >= 4)?;
+            let offset = reader.immediate(Byte)?;
+            (full, Operation::BitTest(bit_test(m.reg), m.rm, Immediate(offset)))
+        }
+        0x0FBC | 0x0FBD => {
+            let m = reader.modrm()?;
+            let kind = if opcode == 0x0FBC { Scan::Bsf } else { Scan::Bsr };
+            (full, Operation::Scan(kind, m.reg, m.rm))
         }
         0x0FC8..=0x0FCF => (Dword, Operation::Bswap(low)),
         _ => return Err(Refusal::NoSuch),

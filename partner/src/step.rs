@@ -1,9 +1,12 @@
 //! One step: fetch an instruction and carry it out.
 
 use crate::arithmetic::{
-    add, divide, divide_signed, keep_carry, logic, multiply, multiply_signed, shift, subtract, DIVISION_FLAGS,
+    add, bit_place, bit_test, divide, divide_signed, double_shift, keep_carry, logic, multiply, multiply_signed, scan,
+    shift, subtract, DIVISION_FLAGS,
 };
-use crate::decode::{decode, Address, Alu, Instruction, Loop, Operand, Operation, Refusal, Repeat, Target, Text};
+use crate::decode::{
+    decode, Address, Alu, BitTest, Instruction, Loop, Operand, Operation, Refusal, Repeat, Target, Text,
+};
 use crate::machine::{
     read, write, FlagEffect, Machine, Width, AF, AH, ALWAYS, CF, CODE_BASE, DF, EAX, EBP, ECX, EDI, EDX, ESI, ESP,
     HOME, OF, PF, SF, ZF,
@@ -52,6 +55,8 @@ pub struct Step {
     pub machine: Machine,
     /// What the step did to the flags, and which of them 003 leaves undefined.
     pub flags: FlagEffect,
+    /// The destination, if 003 leaves it undefined; it keeps its value, as document 02 says.
+    pub kept: Option<Operand>,
 }
 
 /// The instruction at EIP and its bytes.
@@ -77,8 +82,8 @@ pub fn effective_address(machine: &Machine, address: &Address) -> u32 {
     base.wrapping_add(index).wrapping_add(address.displacement)
 }
 
-/// Whether the condition with this number holds (003: Jcc, SETcc).
-fn condition(machine: &Machine, number: u8) -> bool {
+/// Whether the condition with this number holds (003: Jcc, SETcc, CMOVcc).
+pub fn condition(machine: &Machine, number: u8) -> bool {
     let less = machine.flag(SF) != machine.flag(OF);
     let holds = match number >> 1 {
         0 => machine.flag(OF),
@@ -100,20 +105,27 @@ struct Execution<'a> {
     data: &'a mut [u8],
     width: Width,
     flags: FlagEffect,
+    kept: Option<Operand>,
 }
 
 /// Carries out one instruction; a stop has no effect on the data.
 pub fn execute(machine: &Machine, instruction: &Instruction, data: &mut [u8]) -> Result<Step, Stop> {
-    let mut execution =
-        Execution { before: *machine, after: *machine, data, width: instruction.width, flags: FlagEffect::default() };
+    let mut execution = Execution {
+        before: *machine,
+        after: *machine,
+        data,
+        width: instruction.width,
+        flags: FlagEffect::default(),
+        kept: None,
+    };
     execution.after.eip = machine.eip.wrapping_add(instruction.length);
     match (instruction.operation, instruction.repeat) {
         (Operation::Text(text), Some(repeat)) => execution.repeated(text, repeat)?,
         (operation, _) => execution.operate(operation)?,
     }
-    let Execution { mut after, flags, .. } = execution;
+    let Execution { mut after, flags, kept, .. } = execution;
     after.apply(flags);
-    Ok(Step { machine: after, flags })
+    Ok(Step { machine: after, flags, kept })
 }
 
 impl Execution<'_> {
@@ -167,6 +179,22 @@ impl Execution<'_> {
     fn put_result(&mut self, operand: Operand, (result, flags): (u32, FlagEffect)) -> Result<(), Stop> {
         self.flags = flags;
         self.put(operand, result)
+    }
+
+    /// Writes a result with its flags; where 003 leaves it undefined, the operand's old value is written.
+    fn put_or_keep(&mut self, operand: Operand, (result, flags): (Option<u32>, FlagEffect)) -> Result<(), Stop> {
+        self.kept = result.is_none().then_some(operand);
+        let value = result.map_or_else(|| self.value(operand), Ok)?;
+        self.put_result(operand, (value, flags))
+    }
+
+    /// The operand that holds the bit, and the bit's place in it; only a register's offset leads away from memory.
+    fn bit(&self, base: Operand, offset: Operand) -> Result<(Operand, u32), Stop> {
+        let (distance, bit) = bit_place(self.value(offset)?, self.width);
+        Ok(match (base, offset) {
+            (Operand::Memory(address), Operand::Register(_)) => (Operand::Memory(address.moved(distance)), bit),
+            _ => (base, bit),
+        })
     }
 
     /// Sets the given flags to the given bits.
@@ -323,6 +351,28 @@ impl Execution<'_> {
                 let result = shift(kind, self.value(to)?, count, carry == 1, width);
                 self.put_result(to, result)?;
             }
+            // 003: SHLD, SHRD.
+            Operation::DoubleShift(kind, to, filler, count) => {
+                let count = self.value_at(count, Width::Byte)?;
+                let filler = self.before.register(filler, width);
+                let result = double_shift(kind, self.value(to)?, filler, count, width);
+                self.put_or_keep(to, result)?;
+            }
+            // 003: BT, BTC, BTR, BTS.
+            Operation::BitTest(kind, base, offset) => {
+                let (holder, bit) = self.bit(base, offset)?;
+                let result = bit_test(kind, self.value(holder)?, bit);
+                if kind == BitTest::Bt {
+                    self.flags = result.1;
+                } else {
+                    self.put_result(holder, result)?;
+                }
+            }
+            // 003: BSF, BSR.
+            Operation::Scan(kind, to, from) => {
+                let result = scan(kind, self.value(from)?, width);
+                self.put_or_keep(Operand::Register(to), result)?;
+            }
             // 003: PUSH, which stores ESP as it was before.
             Operation::Push(from) => {
                 let value = self.value(from)?;
@@ -379,6 +429,13 @@ impl Execution<'_> {
             Operation::Setcc(number, to) => {
                 let value = u32::from(condition(&self.before, number));
                 self.put(to, value)?;
+            }
+            // 003: CMOVcc; the source is read even if the condition is false (document 02).
+            Operation::Cmov(number, to, from) => {
+                let value = self.value(from)?;
+                if condition(&self.before, number) {
+                    self.put(Operand::Register(to), value)?;
+                }
             }
             // 003: BSWAP.
             Operation::Bswap(to) => self.set(to, self.old(to).swap_bytes()),

@@ -6,7 +6,9 @@ use crate::machine::{Machine, Width};
 const DWORD_NAMES: [&str; 8] = ["EAX", "ECX", "EDX", "EBX", "ESP", "EBP", "ESI", "EDI"];
 const WORD_NAMES: [&str; 8] = ["AX", "CX", "DX", "BX", "SP", "BP", "SI", "DI"];
 const BYTE_NAMES: [&str; 8] = ["AL", "CL", "DL", "BL", "AH", "CH", "DH", "BH"];
-const CONDITIONS: [&str; 16] = ["O", "NO", "B", "AE", "E", "NE", "BE", "A", "S", "NS", "P", "NP", "L", "GE", "LE", "G"];
+/// The conditions' names by number.
+pub const CONDITIONS: [&str; 16] =
+    ["O", "NO", "B", "AE", "E", "NE", "BE", "A", "S", "NS", "P", "NP", "L", "GE", "LE", "G"];
 
 /// The register's name at a width.
 fn register_name(number: u8, width: Width) -> &'static str {
@@ -90,6 +92,11 @@ fn parts(instruction: &Instruction) -> (String, Vec<(Operand, Width)>) {
         Operation::Div(from) => ("DIV".into(), vec![(from, width)]),
         Operation::Idiv(from) => ("IDIV".into(), vec![(from, width)]),
         Operation::Shift(kind, to, count) => (upper(format!("{kind:?}")), vec![(to, width), (count, Width::Byte)]),
+        Operation::DoubleShift(kind, to, filler, count) => {
+            (upper(format!("{kind:?}")), vec![(to, width), register(filler), (count, Width::Byte)])
+        }
+        Operation::BitTest(kind, base, offset) => (upper(format!("{kind:?}")), vec![(base, width), (offset, width)]),
+        Operation::Scan(kind, to, from) => (upper(format!("{kind:?}")), vec![register(to), (from, width)]),
         Operation::Push(from) => ("PUSH".into(), vec![(from, width)]),
         Operation::Pop(to) => ("POP".into(), vec![register(to)]),
         Operation::Leave => ("LEAVE".into(), vec![]),
@@ -110,6 +117,9 @@ fn parts(instruction: &Instruction) -> (String, Vec<(Operand, Width)>) {
             (name.into(), vec![(Operand::Immediate(by), width)])
         }
         Operation::Setcc(number, to) => (format!("SET{}", CONDITIONS[usize::from(number)]), vec![(to, width)]),
+        Operation::Cmov(number, to, from) => {
+            (format!("CMOV{}", CONDITIONS[usize::from(number)]), vec![register(to), (from, width)])
+        }
         Operation::Bswap(to) => ("BSWAP".into(), vec![register(to)]),
         Operation::ExtendAccumulator => ((if width == Width::Word { "CBW" } else { "CWDE" }).into(), vec![]),
         Operation::ExtendIntoEdx => ((if width == Width::Word { "CWD" } else { "CDQ" }).into(), vec![]),

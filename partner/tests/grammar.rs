@@ -1,4 +1,4 @@
-//! The decoder beside document 01's grammar, written down a second time as lengths.
+//! The decoder beside the grammar of documents 01 and 02, written down a second time as lengths.
 
 use partner::decode::{decode, Refusal};
 use partner::random::Random;
@@ -18,6 +18,7 @@ fn byte_immediate(opcode: usize) -> bool {
         || (0x70..0x80).contains(&opcode)
         || (0xB0..0xB8).contains(&opcode)
         || (0xE0..0xE4).contains(&opcode)
+        || [0x1A4, 0x1AC, 0x1BA].contains(&opcode)
 }
 
 /// Opcodes whose immediate is "v".
@@ -38,6 +39,13 @@ fn has_modrm(opcode: usize) -> bool {
         || (0xD0..0xD4).contains(&opcode)
         || (0x190..0x1A0).contains(&opcode)
         || [0x1AF, 0x1B6, 0x1B7, 0x1BE, 0x1BF].contains(&opcode)
+        || is_bit_or_conditional_move(opcode)
+}
+
+/// M-100: CMOVcc, then bit tests, scans and double shifts.
+fn is_bit_or_conditional_move(opcode: usize) -> bool {
+    (0x140..0x150).contains(&opcode)
+        || [0x1A3, 0x1AB, 0x1B3, 0x1BB, 0x1BA, 0x1BC, 0x1BD, 0x1A4, 0x1A5, 0x1AC, 0x1AD].contains(&opcode)
 }
 
 /// Opcodes with nothing behind them.
@@ -71,6 +79,7 @@ fn takes_reg(opcode: usize, reg: u8) -> bool {
         0xF6 | 0xF7 => reg != 1,
         0xFE => reg < 2,
         0xFF => [0, 1, 2, 4, 6].contains(&reg),
+        0x1BA => [4, 5, 6, 7].contains(&reg),
         _ => true,
     }
 }
@@ -86,6 +95,7 @@ fn takes_66(opcode: usize, reg: u8) -> bool {
         || (0x90..0x9A).contains(&opcode)
         || (0xB8..0xC0).contains(&opcode)
         || ODD.contains(&opcode) && (opcode != 0xFF || reg < 2)
+        || is_bit_or_conditional_move(opcode)
 }
 
 /// Bytes of a ModR/M byte with SIB and displacement.
@@ -182,15 +192,63 @@ fn can_go_on(bytes: &[u8]) -> bool {
 
 #[test]
 fn short_bytes_are_cut_exactly_if_some_instruction_begins_so() {
-    for length in 1..=2usize {
-        for value in 0..1u32 << (8 * length) {
-            let bytes = &value.to_be_bytes()[4 - length..];
-            match decode(bytes) {
-                Err(Refusal::Cut) => assert!(can_go_on(bytes), "{bytes:02X?}"),
-                Err(Refusal::NoSuch) => assert!(!can_go_on(bytes), "{bytes:02X?}"),
-                Ok(instruction) => assert!(instruction.length as usize <= length),
-            }
+    let all = (1..=2usize).flat_map(|length| (0..1u32 << (8 * length)).map(move |value| (length, value)));
+    let escaped = (0x0F_0000..0x10_0000).map(|value| (3, value));
+    for (length, value) in all.chain(escaped) {
+        let bytes = &value.to_be_bytes()[4 - length..];
+        match decode(bytes) {
+            Err(Refusal::Cut) => assert!(can_go_on(bytes), "{bytes:02X?}"),
+            Err(Refusal::NoSuch) => assert!(!can_go_on(bytes), "{bytes:02X?}"),
+            Ok(instruction) => assert!(instruction.length as usize <= length),
         }
+    }
+}
+
+#[test]
+fn bit_and_conditional_move_instructions_unknown_and_cut() {
+    for cut in [
+        &[0x0F, 0xA4, 0xC0][..],
+        &[0x0F, 0xBA],
+        &[0x0F, 0xBA, 0xE0],
+        &[0x0F, 0xBA, 0x24],
+        &[0x0F, 0xBA, 0x2D, 0, 0, 0, 0],
+        &[0x0F, 0x40],
+        &[0x66, 0x0F, 0x4F, 0x80, 0, 0, 0],
+        &[0x66, 0x0F, 0xAC, 0x44, 0x24, 0],
+        &[0x0F, 0xBC],
+    ] {
+        assert_eq!(decode(cut), Err(Refusal::Cut), "{cut:02X?}");
+    }
+    for none in [
+        &[0x0F, 0xBA, 0xC0, 0x01][..],
+        &[0x0F, 0xBA, 0xC0],
+        &[0x0F, 0xBA, 0x1C],
+        &[0x66, 0x0F, 0xBA, 0xD8, 0],
+        &[0xF3, 0x0F, 0xBC, 0xC0],
+        &[0xF3, 0x0F, 0xBD, 0xC0],
+        &[0xF2, 0x0F, 0x40, 0xC0],
+        &[0x66, 0xF3, 0x0F, 0xA3, 0xC0],
+        &[0x66, 0x66, 0x0F, 0xA3, 0xC0],
+        &[0x0F, 0x3F, 0xC0],
+        &[0x0F, 0x50, 0xC0],
+        &[0x0F, 0xA2],
+        &[0x0F, 0xA6, 0xC0],
+        &[0x0F, 0xAA],
+        &[0x0F, 0xAE, 0xC0],
+        &[0x0F, 0xB2, 0xC0],
+        &[0x0F, 0xB9, 0xC0],
+    ] {
+        assert_eq!(decode(none), Err(Refusal::NoSuch), "{none:02X?}");
+    }
+    for (one, length) in [
+        (&[0x0F, 0x4F, 0xC8][..], 3),
+        (&[0x0F, 0xA3, 0x03], 3),
+        (&[0x66, 0x0F, 0xBA, 0x7C, 0x24, 4, 9], 7),
+        (&[0x0F, 0xBD, 0x05, 0, 0, 0, 0], 7),
+        (&[0x0F, 0xA5, 0xC0], 3),
+        (&[0x66, 0x0F, 0xA4, 0x84, 0x24, 0, 0, 0, 0, 5], 10),
+    ] {
+        assert_eq!(decoded(one), Some(length), "{one:02X?}");
     }
 }
 
