@@ -1,5 +1,6 @@
 //! Random cases: single instructions, whole blocks, refused inputs, broken code and block checks.
 
+mod bits;
 mod rooms;
 
 use std::collections::BTreeMap;
@@ -133,7 +134,8 @@ impl Generator {
     /// The next case; single instructions go through all forms in turn.
     pub fn next_case(&mut self) -> Case {
         match self.random.below(1000) {
-            0..=649 => Case::Run(self.single()),
+            0..=589 => Case::Run(self.single()),
+            590..=649 => Case::Run(self.bits()),
             700..=719 if self.size == Size::Large => Case::Run(self.rooms()),
             720..=729 if self.size == Size::Large => self.rooms_resumed(),
             650..=729 => Case::Run(self.block_run()),
@@ -327,13 +329,19 @@ impl Generator {
             Operation::Loop(..) => machine.regs[usize::from(ECX)] = self.random.pick(&[0, 1, 2, 0xFFFF_FFFF]),
             _ => {}
         }
+        let distance = self.aim_bit(&instruction, machine);
         if let Some(address) = instruction.memory() {
-            self.aim_memory(&address, code, machine, data.len());
+            self.aim_memory(&address, distance, code, machine, data.len());
         }
-        if let Operation::Div(operand) | Operation::Idiv(operand) = instruction.operation {
-            if self.random.percent(60) {
+        match instruction.operation {
+            Operation::Div(operand) | Operation::Idiv(operand) if self.random.percent(60) => {
                 self.aim_division(&instruction, &operand, machine, data);
             }
+            Operation::Scan(_, _, source) if self.random.percent(60) => {
+                self.aim_scan(&source, instruction.width, machine, data);
+            }
+            Operation::DoubleShift(.., count) if self.random.percent(80) => self.aim_count(&count, code, machine),
+            _ => {}
         }
     }
 
@@ -351,9 +359,9 @@ impl Generator {
         }
     }
 
-    /// Moves a memory operand to an interesting address.
-    fn aim_memory(&mut self, address: &Address, code: &mut [u8], machine: &mut Machine, length: usize) {
-        let wanted = self.address(length);
+    /// Moves a memory operand so that the access, so far from the operand's address, is at an interesting one.
+    fn aim_memory(&mut self, address: &Address, distance: u32, code: &mut [u8], machine: &mut Machine, length: usize) {
+        let wanted = self.address(length).wrapping_sub(distance);
         let missing = |machine: &Machine| wanted.wrapping_sub(effective_address(machine, address));
         match address.base {
             Some(base) if self.random.percent(90) => {
@@ -374,12 +382,8 @@ impl Generator {
         let width = instruction.width;
         let signed = matches!(instruction.operation, Operation::Idiv(_));
         let divisor = self.value() & width.mask();
-        match *operand {
-            Operand::Register(EAX | EDX) | Operand::Immediate(_) => {}
-            Operand::Register(number) => machine.set_register(number, width, divisor),
-            Operand::Memory(address) => {
-                let _ = write(data, effective_address(machine, &address), width, divisor);
-            }
+        if !matches!(operand, Operand::Register(EAX | EDX)) {
+            give(operand, width, divisor, machine, data);
         }
         let half = 1i128 << (width.bits() - 1);
         let near = self.random.below(5) as i128 - 2;
@@ -681,6 +685,17 @@ impl Generator {
             }
         }
         case
+    }
+}
+
+/// Gives an operand a value, if it is a register or lies in the data.
+fn give(operand: &Operand, width: Width, value: u32, machine: &mut Machine, data: &mut [u8]) {
+    match *operand {
+        Operand::Register(number) => machine.set_register(number, width, value),
+        Operand::Memory(address) => {
+            let _ = write(data, effective_address(machine, &address), width, value);
+        }
+        Operand::Immediate(_) => {}
     }
 }
 

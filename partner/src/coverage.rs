@@ -1,8 +1,11 @@
 //! Counts of what a set of cases came to.
 
+mod bits;
+
 use std::collections::BTreeMap;
 use std::fmt::{self, Display, Formatter};
 
+use self::bits::Bits;
 use crate::decode::{Instruction, Operation, PREFIXES};
 use crate::machine::{CODE_BASE, HOME, MAX_BYTES};
 use crate::run::{Outcome, Seen};
@@ -44,6 +47,11 @@ impl Group {
     /// Nothing counted yet.
     fn new(title: String, shapes: impl Iterator<Item = String>) -> Self {
         Group { title, shapes: shapes.map(|shape| (shape, 0)).collect() }
+    }
+
+    /// Whether every shape came.
+    fn is_full(&self) -> bool {
+        self.shapes.iter().all(|shape| shape.1 > 0)
     }
 
     /// Counts the shape at this place.
@@ -90,13 +98,13 @@ impl Course {
     /// Goes on by a finished step.
     fn follow(&mut self, seen: &Seen, step: &Step) {
         let Instruction { operation, length, repeat, .. } = *seen.instruction;
-        let next = step.machine.eip;
+        let (at, next) = (seen.before.eip, step.machine.eip);
         let jumps = matches!(operation, Operation::Jmp(_) | Operation::Jcc(..) | Operation::Loop(..));
-        self.jumped |= self.jump.is_some_and(|from| from != seen.eip);
-        self.jump = (jumps && next != seen.eip.wrapping_add(length)).then_some(seen.eip);
-        self.inside = repeat.is_some() && next == seen.eip;
-        if self.at.replace(seen.eip) != Some(seen.eip) {
-            self.come_to(seen.eip);
+        self.jumped |= self.jump.is_some_and(|from| from != at);
+        self.jump = (jumps && next != at.wrapping_add(length)).then_some(at);
+        self.inside = repeat.is_some() && next == at;
+        if self.at.replace(at) != Some(at) {
+            self.come_to(at);
         }
     }
 
@@ -124,6 +132,7 @@ pub struct Coverage {
     modrm: Group,
     sib: [Group; 3],
     prefixes: Group,
+    bits: Bits,
     loops: Group,
     starts: Group,
     ends: Group,
@@ -165,6 +174,7 @@ impl Coverage {
             modrm: Group::new("ModR/M shapes of memory".to_string(), modrm),
             sib: [0, 1, 2].map(sib),
             prefixes: Group::new("prefix orders".to_string(), PREFIXES.iter().map(prefix_name)),
+            bits: Bits::new(),
             loops: runs("ways of going round", &LOOPS),
             starts: runs("starts outside the code", &OUTSIDE),
             ends: runs("ways out of the code", &OUTSIDE),
@@ -173,6 +183,7 @@ impl Coverage {
 
     /// Counts an instruction that a run came to.
     pub fn saw(&mut self, seen: &Seen) {
+        self.bits.saw(seen);
         let count = self.forms.entry(form(seen.bytes, seen.instruction)).or_default();
         match seen.stepped {
             Ok(step) => {
@@ -182,6 +193,16 @@ impl Coverage {
             }
             Err(_) => count.stopped += 1,
         }
+    }
+
+    /// Whether a bit test, scan, double shift or conditional move has a shape that never came.
+    pub fn is_new(&self, seen: &Seen) -> bool {
+        self.bits.is_new(seen)
+    }
+
+    /// Whether every shape of bit tests, scans, double shifts and conditional moves came.
+    pub fn has_all_bits(&self) -> bool {
+        self.bits.groups().all(Group::is_full)
     }
 
     /// Counts the shapes of a finished step.
@@ -230,8 +251,8 @@ impl Coverage {
 
     /// The groups of shapes.
     fn groups(&self) -> impl Iterator<Item = &Group> {
-        let last = [&self.prefixes, &self.loops, &self.starts, &self.ends];
-        [&self.modrm].into_iter().chain(&self.sib).chain(last)
+        let runs = [&self.loops, &self.starts, &self.ends];
+        [&self.modrm].into_iter().chain(&self.sib).chain([&self.prefixes]).chain(self.bits.groups()).chain(runs)
     }
 
     /// Forms that never finished a step, and numbers and courses that never came.

@@ -20,8 +20,8 @@ pub struct Seen<'a> {
     pub instruction: &'a Instruction,
     /// The instruction's own bytes.
     pub bytes: &'a [u8],
-    /// The instruction's address.
-    pub eip: u32,
+    /// The machine before the step.
+    pub before: &'a Machine,
     /// The finished step, or the stop.
     pub stepped: Result<Step, Stop>,
 }
@@ -62,7 +62,7 @@ pub fn run_observed(
     while outcome.steps < budget {
         let stepped = fetch(&outcome.machine, code).and_then(|(instruction, bytes)| {
             let stepped = execute(&outcome.machine, &instruction, data);
-            observe(Seen { instruction: &instruction, bytes, eip: outcome.machine.eip, stepped });
+            observe(Seen { instruction: &instruction, bytes, before: &outcome.machine, stepped });
             stepped
         });
         match stepped {

@@ -91,8 +91,16 @@ fn write_check(lines: &mut Lines<impl Write>, case: &CheckCase) -> io::Result<()
     )
 }
 
-/// Writes the header and so many lines, first one finished step of each form, and gives back what they cover. With
-/// another program the results are its own, but for the undefined flags.
+/// Whether the case's first step adds to what is covered of bit tests, scans, double shifts and conditional moves.
+fn adds(case: &RunCase, coverage: &Coverage) -> bool {
+    let mut new = false;
+    run_observed(case.machine, &case.code, &mut case.data.clone(), 1, |seen| new |= coverage.is_new(&seen));
+    new
+}
+
+/// Writes the header and so many lines, first one finished step of each form and then one step of each shape of bit
+/// tests, scans, double shifts and conditional moves, and gives back what they cover. With another program the results
+/// are its own, but for the undefined flags.
 pub fn write_vectors(out: &mut impl Write, other: Option<&dyn Other>, seed: u64, count: u64) -> io::Result<Coverage> {
     let mut generator = Generator::new(seed, Size::Small);
     let names: Vec<String> = generator.form_names().map(str::to_string).collect();
@@ -102,6 +110,13 @@ pub fn write_vectors(out: &mut impl Write, other: Option<&dyn Other>, seed: u64,
     for form in (0..names.len()).take(count as usize) {
         write_run(&mut lines, &generator.finishing(form))?;
         written += 1;
+    }
+    while written < count && !lines.coverage.has_all_bits() {
+        let case = RunCase { budget: 1, ..generator.bits() };
+        if adds(&case, &lines.coverage) {
+            write_run(&mut lines, &case)?;
+            written += 1;
+        }
     }
     while written < count {
         match generator.next_case() {

@@ -1,10 +1,11 @@
 //! A program that keeps decoded instructions by their offsets modulo 64, and takes one for another, is found out.
 
-use partner::check::check;
-use partner::compare::{compare, Comparison, Other, ANSWER_WORDS, STATE_WORDS, WRONG_AREA};
+mod common;
+
+use common::{Ended, Program};
+use partner::compare::{compare, Comparison};
 use partner::decode::{decode, Instruction};
-use partner::machine::{Machine, MAX_BUDGET};
-use partner::run::run;
+use partner::machine::Machine;
 use partner::step::{execute, fetch};
 
 /// The partner with 64 kept instructions.
@@ -44,8 +45,8 @@ impl Fault {
 }
 
 impl Keeper {
-    /// Steps until a stop or the budget's end: machine, steps, number and address.
-    fn steps(&self, mut machine: Machine, code: &[u8], data: &mut [u8], budget: u64) -> (Machine, u64, u32, u32) {
+    /// Steps until a stop or the budget's end.
+    fn steps(&self, mut machine: Machine, code: &[u8], data: &mut [u8], budget: u64) -> Ended {
         let mut kept = [self.fault.nothing(); 64];
         for steps in 0..budget {
             let slot = &mut kept[machine.eip as usize % 64];
@@ -64,45 +65,18 @@ impl Keeper {
     }
 }
 
-impl Other for Keeper {
-    fn run(&self, state: &mut [u32], code: &[u8], area: &mut [u8], budget: u64) -> u32 {
-        if state.len() != STATE_WORDS {
-            return WRONG_AREA;
-        }
-        let mut regs = [0; 8];
-        regs.copy_from_slice(&state[..8]);
-        let machine = Machine { regs, eip: state[8], flags: state[9] };
-        let refused = run(machine, code, area, if budget > MAX_BUDGET { budget } else { 0 }).number;
-        let (machine, steps, number, address) = match refused {
-            0 => self.steps(machine, code, area, budget),
-            _ => (machine, 0, refused, 0),
-        };
-        state[..8].copy_from_slice(&machine.regs);
-        state[8..].copy_from_slice(&[machine.eip, machine.flags, steps as u32, address]);
-        number
-    }
-
-    fn check(&self, code: &[u8], marks: &mut [u8], answer: &mut [u32]) -> u32 {
-        if answer.len() != ANSWER_WORDS {
-            return WRONG_AREA;
-        }
-        let verdict = check(code, marks);
-        answer[0] = verdict.answer;
-        verdict.number
-    }
-}
-
-/// The comparison with a keeper.
-fn compared(keeper: &Keeper) -> Comparison<'_> {
-    compare(keeper, 3, 20_000, 0)
+/// What comes of comparing a keeper.
+fn compared<T>(fault: Fault, look: impl Fn(&Comparison) -> T) -> T {
+    let keeper = Keeper { fault };
+    let program = Program(|machine, code: &[u8], data: &mut [u8], budget| keeper.steps(machine, code, data, budget));
+    look(&compare(&program, 3, 20_000, 0))
 }
 
 #[test]
 fn exact_keeping_agrees_and_no_way_is_a_hole() {
-    let keeper = Keeper { fault: Fault::None };
-    let comparison = compared(&keeper);
-    assert_eq!((comparison.defined, comparison.policy), (0, 0));
-    let report = comparison.coverage.to_string();
+    let (found, report) =
+        compared(Fault::None, |comparison| ((comparison.defined, comparison.policy), comparison.coverage.to_string()));
+    assert_eq!(found, (0, 0));
     for group in ["3 of 3 ways of going round", "6 of 6 starts outside the code", "6 of 6 ways out of the code"] {
         assert!(report.contains(group), "no \"{group}\" in:\n{report}");
     }
@@ -111,8 +85,7 @@ fn exact_keeping_agrees_and_no_way_is_a_hole() {
 #[test]
 fn every_mix_up_is_found() {
     for (fault, least) in [(Fault::Modulo64, 300), (Fault::Modulo1024, 50), (Fault::Low16, 20), (Fault::Empty, 20)] {
-        let keeper = Keeper { fault };
-        let found = compared(&keeper).defined;
+        let found = compared(fault, |comparison| comparison.defined);
         assert!(found >= least, "{found} of at least {least}");
     }
 }

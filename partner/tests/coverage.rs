@@ -105,3 +105,95 @@ fn places_outside_the_code_are_counted() {
         }
     }
 }
+
+/// One step with these values in ECX and EDX counts this one shape of the group, whose line it looks for.
+fn counts_one(code: &[u8], (ecx, edx): (u32, u32), title: &str, shape: &str) {
+    let mut coverage = Coverage::new(std::iter::empty());
+    let machine = Machine { regs: [0, ecx, edx, 0, 0, 0, DATA_BASE, 0], eip: CODE_BASE, flags: ALWAYS };
+    let outcome = run_observed(machine, code, &mut [0, 0, 0, 0, 0x80, 0, 0, 0], 1, |seen| coverage.saw(&seen));
+    coverage.ran(&outcome, code);
+    let report = coverage.to_string();
+    let line = report.lines().find(|line| line.contains(title)).expect("the group has a line");
+    let (found, holes) = line.split_once(", holes: ").expect("the other shapes are holes");
+    assert!(found.starts_with("1 of ") && !holes.split(", ").any(|hole| hole == shape), "{code:02X?} {line}");
+    assert!(!coverage.has_all_bits());
+}
+
+#[test]
+fn bit_tests_are_counted() {
+    // BT [ESI], ECX and BT [ESI], CX.
+    let (long, word): (&[u8], &[u8]) = (&[0x0F, 0xA3, 0x0E], &[0x66, 0x0F, 0xA3, 0x0E]);
+    for (code, offset, shape) in [
+        (long, 31, "32 at finished"),
+        (long, 32, "32 above finished"),
+        (long, 64, "32 above stopped"),
+        (long, 0xFFFF_FFFF, "32 below stopped"),
+        (long, 0x8000_001F, "32 farthest below stopped"),
+        (long, 0x7FFF_FFE0, "32 farthest above stopped"),
+        (word, 0x0001_000F, "16 at finished"),
+        (word, 16, "16 above finished"),
+        (word, 0x7FEF, "16 above stopped"),
+        (word, 0x7FF0, "16 farthest above stopped"),
+        (word, 0x800F, "16 farthest below stopped"),
+        (word, 0x8010, "16 below stopped"),
+    ] {
+        counts_one(code, (offset, 0), "units of a register's bit offset", shape);
+    }
+    counts_one(long, (39, 0), "bits tested", "BT memory set");
+    counts_one(long, (38, 0), "bits tested", "BT memory clear");
+    // BTS, BTR and BTC EDX, ECX; BTC [ESI], 7.
+    for (opcode, name) in [(0xAB, "BTS"), (0xB3, "BTR"), (0xBB, "BTC")] {
+        counts_one(&[0x0F, opcode, 0xCA], (33, 2), "bits tested", &format!("{name} register set"));
+        counts_one(&[0x0F, opcode, 0xCA], (0, 2), "bits tested", &format!("{name} register clear"));
+    }
+    counts_one(&[0x0F, 0xBA, 0x7E, 4, 7], (0, 0), "bits tested", "BTC memory set");
+}
+
+#[test]
+fn scans_are_counted() {
+    // BSF and BSR EAX, EDX.
+    for (opcode, name) in [(0xBC, "BSF"), (0xBD, "BSR")] {
+        for (source, long, word) in [
+            (0, "none", "none"),
+            (1, "0", "0"),
+            (0x8000, "between", "top"),
+            (0x8000_0000, "top", "none"),
+            (2, "between", "between"),
+        ] {
+            counts_one(&[0x0F, opcode, 0xC2], (0, source), "indexes of scans", &format!("{name} 32 {long}"));
+            counts_one(&[0x66, 0x0F, opcode, 0xC2], (0, source), "indexes of scans", &format!("{name} 16 {word}"));
+        }
+    }
+}
+
+#[test]
+fn double_shifts_are_counted() {
+    for (opcode, name) in [(0xA4, "SHLD"), (0xAC, "SHRD")] {
+        for (count, long, word) in [
+            (0, "32 by 0", "16 by 0"),
+            (64, "32 by 0", "16 by 0"),
+            (33, "32 by 1", "16 by 1"),
+            (15, "32 below", "16 below"),
+            (16, "32 below", "16 at"),
+            (31, "32 below", "16 over"),
+        ] {
+            // By an immediate in EDX, and by CL in [ESI].
+            let title = "counts of double shifts";
+            let ecx = u32::from(count) | 0x1100;
+            counts_one(&[0x0F, opcode, 0xC2, count], (0, 0), title, &format!("{name} register {long}"));
+            counts_one(&[0x66, 0x0F, opcode, 0xC2, count], (0, 0), title, &format!("{name} register {word}"));
+            counts_one(&[0x0F, opcode + 1, 0x06], (ecx, 0), title, &format!("{name} memory {long}"));
+            counts_one(&[0x66, 0x0F, opcode + 1, 0x06], (ecx, 0), title, &format!("{name} memory {word}"));
+        }
+    }
+}
+
+#[test]
+fn conditional_moves_are_counted() {
+    // From EDX, [ESI] and [EDI], with all flags clear.
+    for (opcode, shape) in [(0x45, "NE met"), (0x44, "E not met"), (0x4F, "G met"), (0x42, "B not met")] {
+        for (modrm, end) in [(0xC2, "finished"), (0x06, "finished"), (0x07, "stopped")] {
+            counts_one(&[0x0F, opcode, modrm], (0, 0), "conditional moves", &format!("{shape} {end}"));
+        }
+    }
+}

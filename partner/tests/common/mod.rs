@@ -1,0 +1,40 @@
+//! A program with Sangolid's C interface around steps of its own.
+
+use partner::check::check;
+use partner::compare::{Other, ANSWER_WORDS, STATE_WORDS, WRONG_AREA};
+use partner::machine::{Machine, MAX_BUDGET};
+use partner::run::run;
+
+/// How steps ended: machine, steps, number and address.
+pub type Ended = (Machine, u64, u32, u32);
+
+/// Takes steps from the machine until a stop or the budget's end; all else is the partner's.
+pub struct Program<F: Fn(Machine, &[u8], &mut [u8], u64) -> Ended>(pub F);
+
+impl<F: Fn(Machine, &[u8], &mut [u8], u64) -> Ended> Other for Program<F> {
+    fn run(&self, state: &mut [u32], code: &[u8], area: &mut [u8], budget: u64) -> u32 {
+        if state.len() != STATE_WORDS {
+            return WRONG_AREA;
+        }
+        let mut regs = [0; 8];
+        regs.copy_from_slice(&state[..8]);
+        let machine = Machine { regs, eip: state[8], flags: state[9] };
+        let refused = run(machine, code, area, if budget > MAX_BUDGET { budget } else { 0 }).number;
+        let (machine, steps, number, address) = match refused {
+            0 => (self.0)(machine, code, area, budget),
+            _ => (machine, 0, refused, 0),
+        };
+        state[..8].copy_from_slice(&machine.regs);
+        state[8..].copy_from_slice(&[machine.eip, machine.flags, steps as u32, address]);
+        number
+    }
+
+    fn check(&self, code: &[u8], marks: &mut [u8], answer: &mut [u32]) -> u32 {
+        if answer.len() != ANSWER_WORDS {
+            return WRONG_AREA;
+        }
+        let verdict = check(code, marks);
+        answer[0] = verdict.answer;
+        verdict.number
+    }
+}
