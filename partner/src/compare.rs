@@ -27,7 +27,7 @@ pub trait Other {
 /// How two outcomes differ.
 #[derive(Clone, Copy, PartialEq, Eq, Debug)]
 pub enum Difference {
-    /// In something that 003 and document 01 both define.
+    /// In something other than flags that 003 leaves undefined.
     Defined,
     /// Only in flags that 003 leaves undefined and document 01 keeps.
     Policy,

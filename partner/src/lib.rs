@@ -1,4 +1,4 @@
-//! An emulator of document 01's subset, written from document 01 and Intel's 1999 reference (003) alone.
+//! An emulator of the subset of documents 01 and 02, written from them and Intel's 1999 reference (003) alone.
 
 pub mod arithmetic;
 pub mod cases;

@@ -98,9 +98,9 @@ fn adds(case: &RunCase, coverage: &Coverage) -> bool {
     new
 }
 
-/// Writes the header and so many lines, first one finished step of each form and then one step of each shape of bit
-/// tests, scans, double shifts and conditional moves, and gives back what they cover. With another program the results
-/// are its own, but for the undefined flags.
+/// Writes the header and so many lines, first one finished step of each form, then steps for the shapes of bit tests,
+/// scans, double shifts and conditional moves still missing, and gives back what they cover. With another program the
+/// results are its own, but for the undefined flags.
 pub fn write_vectors(out: &mut impl Write, other: Option<&dyn Other>, seed: u64, count: u64) -> io::Result<Coverage> {
     let mut generator = Generator::new(seed, Size::Small);
     let names: Vec<String> = generator.form_names().map(str::to_string).collect();

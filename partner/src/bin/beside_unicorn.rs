@@ -6,8 +6,9 @@ use std::ffi::{c_int, c_void};
 use std::process::ExitCode;
 
 use partner::cases::{Generator, RunCase, Size};
-use partner::machine::{Machine, CODE_BASE, DATA_BASE, KNOWN};
-use partner::step::{execute, fetch, Stop};
+use partner::decode::Operand;
+use partner::machine::{Machine, Width, CODE_BASE, DATA_BASE, KNOWN};
+use partner::step::{effective_address, execute, fetch, Stop};
 use partner::text::{describe, form, hex, machine_text};
 
 extern "C" {
@@ -153,12 +154,22 @@ impl Drop for Engine {
     }
 }
 
-/// The partner's result, the flags that 003 leaves undefined, and the address of a refused access.
-fn partner_run(case: &RunCase, code: &[u8]) -> (Result, u32, Option<u32>) {
-    let mut refused = None;
+/// The partner's result and what 003 leaves open.
+struct Ours {
+    result: Result,
+    /// Flags that 003 leaves undefined.
+    undefined: u32,
+    /// The destination, if 003 leaves it undefined.
+    kept: Option<Operand>,
+    /// The address of a refused access.
+    refused: Option<u32>,
+}
+
+/// Carries out one instruction by the partner, a repeated one with all its rounds.
+fn partner_run(case: &RunCase, code: &[u8]) -> Ours {
+    let (mut undefined, mut kept, mut refused) = (0, None, None);
     let mut data = case.data.clone();
     let mut machine = case.machine;
-    let mut undefined = 0;
     let end = loop {
         let (instruction, _) = fetch(&machine, code).expect("every slot holds an instruction");
         match execute(&machine, &instruction, &mut data) {
@@ -173,14 +184,14 @@ fn partner_run(case: &RunCase, code: &[u8]) -> (Result, u32, Option<u32>) {
             Err(_) => break End::Divide,
             Ok(step) => {
                 machine = step.machine;
-                undefined = step.flags.undefined;
+                (undefined, kept) = (step.flags.undefined, step.kept);
                 if instruction.repeat.is_none() || machine.eip != case.machine.eip {
                     break End::Finished;
                 }
             }
         }
     };
-    (Result { end, machine, data }, undefined, refused)
+    Ours { result: Result { end, machine, data }, undefined, kept, refused }
 }
 
 /// Unicorn lets data accesses reach the code's pages, which document 01 doesn't.
@@ -201,6 +212,23 @@ fn agree(ours: &Result, theirs: &Result, undefined: u32) -> bool {
     let same = ours.end == theirs.end && ours.machine.regs == theirs.machine.regs && ours.data == theirs.data;
     let flags = (ours.machine.flags ^ theirs.machine.flags) & !undefined == 0;
     same && (ours.end != End::Finished || flags && ours.machine.eip == theirs.machine.eip)
+}
+
+/// Unicorn's result with the partner's value in the destination.
+fn with_destination(theirs: &Result, ours: &Result, case: &RunCase, destination: Operand, width: Width) -> Result {
+    let mut theirs = theirs.clone();
+    match destination {
+        Operand::Register(number) => {
+            theirs.machine.set_register(number, width, ours.machine.register(number, width));
+        }
+        Operand::Memory(address) => {
+            let start = (effective_address(&case.machine, &address) - DATA_BASE) as usize;
+            let place = start..start + width.bytes() as usize;
+            theirs.data[place.clone()].copy_from_slice(&ours.data[place]);
+        }
+        Operand::Immediate(_) => {}
+    }
+    theirs
 }
 
 /// Indexes and values where two data areas differ.
@@ -232,7 +260,7 @@ fn main() -> ExitCode {
         for case in cases.iter().take((count - done) as usize) {
             let (instruction, bytes) = fetch(&case.machine, &code).expect("every slot holds an instruction");
             let next = case.machine.eip + instruction.length;
-            let (ours, undefined, refused) = partner_run(case, &code);
+            let Ours { result: ours, undefined, kept, refused } = partner_run(case, &code);
             done += 1;
             if refused.is_some_and(in_code) {
                 continue;
@@ -244,7 +272,11 @@ fn main() -> ExitCode {
                 engine = Engine::new(&code);
             }
             if !agree(&ours, &theirs, undefined) {
-                let kind = format!("{}, {:?} beside {:?}", form(bytes, &instruction), ours.end, theirs.end);
+                let only_there = kept.is_some_and(|kept| {
+                    agree(&ours, &with_destination(&theirs, &ours, case, kept, instruction.width), undefined)
+                });
+                let open = if only_there { ", only in a destination that 003 leaves undefined" } else { "" };
+                let kind = format!("{}, {:?} beside {:?}{open}", form(bytes, &instruction), ours.end, theirs.end);
                 let times = differing.entry(kind).or_default();
                 *times += 1;
                 if *times == 1 {
