@@ -188,7 +188,7 @@ impl Execution<'_> {
         self.put_result(operand, (value, flags))
     }
 
-    /// The operand that holds the bit, and the bit's place in it; only a register's offset leads away from memory.
+    /// The operand that holds the bit, and the bit's place in it; only a register's offset moves a memory operand.
     fn bit(&self, base: Operand, offset: Operand) -> Result<(Operand, u32), Stop> {
         let (distance, bit) = bit_place(self.value(offset)?, self.width);
         Ok(match (base, offset) {
