@@ -67,23 +67,23 @@ unfolding All Holds Gives cases-1-to-12 ones codeBase
     Addresses.scaledIndex Addresses.baseRegister Addresses.addressBase Addresses.effectiveAddress
     Plans.sizeOf Plans.operandOf Plans.isOffset Plans.addressIn Plans.nextOf Plans.planFor Plans.planOf
     Words.becomes Words.faults Words.onward Words.value Words.assign Words.readOr Words.readOf Words.writes
-    Arithmetic.arithmeticReads Arithmetic.assigns Arithmetic.settled Arithmetic.binary Arithmetic.single Arithmetic.shift Arithmetic.upper Arithmetic.doubled Arithmetic.quotient Arithmetic.divided Arithmetic.dividedSigned Arithmetic.arithmeticEffect
+    Arithmetic.arithmeticAddress Arithmetic.arithmeticReads Arithmetic.assigns Arithmetic.settled Arithmetic.binary Arithmetic.single Arithmetic.shift Arithmetic.upper Arithmetic.doubled Arithmetic.quotient Arithmetic.divided Arithmetic.dividedSigned Arithmetic.arithmeticEffect
     Moves.moveReads Moves.moveEffect
     Branches.counted
     Strings.passed Strings.round Strings.roundReads Strings.compares Strings.over Strings.repeated Strings.withMachine Strings.idle Strings.stringReads Strings.rounded Strings.stringEffect
-    Effects.readsBy Effects.effectBy
-    Steps.home Steps.inside Steps.committed Steps.finished Steps.performed Steps.planned Steps.executed Steps.stepOf Steps.stored Steps.loaded
+    Effects.addressBy Effects.readsBy Effects.effectBy
+    Steps.home Steps.inside Steps.committed Steps.finished Steps.performed Steps.operandAddress Steps.planned Steps.executed Steps.stepOf Steps.stored Steps.loaded
     Runs.onMoved Runs.runFrom Runs.refusal Runs.opened Runs.closed Runs.taken Runs.runOf
 runs-hold = (refl, (refl, (refl, (refl, (refl, (refl, (refl, (keeps-machine, (refl, (refl, (refl, (refl, (refl, (refl, (refl, tt)))))))))))))))
 
 -- two tables that hold are one that holds
-both : (cases more : List Case) → All cases → All more → All (cases ++ more)
+pub both : (cases more : List Case) → All cases → All more → All (cases ++ more)
 unfolding All
 both [] more h k = k
 both (c ∷ cases) more h k = (h .0, both cases more (h .1) k)
 
 -- what the grammar's table says of bytes, line by line
-bytes-hold : (cases : List Bytes.BytesCase) → Bytes.All cases → All (map bytes cases)
+pub bytes-hold : (cases : List Bytes.BytesCase) → Bytes.All cases → All (map bytes cases)
 unfolding All Holds Bytes.All
 bytes-hold [] h = tt
 bytes-hold (c ∷ cases) h = (h .0, bytes-hold cases (h .1))

@@ -57,10 +57,10 @@ unfolding Keeps Gives
     Operations.shiftAt Operations.operationOf Senses.senses Senses.senseOf
     Plans.sizeOf Plans.operandOf Plans.isOffset Plans.addressIn Plans.nextOf Plans.planFor Plans.planOf
     Words.becomes Words.onward Words.value Words.assign Words.readOr Words.readOf
-    Arithmetic.arithmeticReads Arithmetic.settled Arithmetic.shift Arithmetic.arithmeticEffect
-    Effects.readsBy Effects.effectBy
+    Arithmetic.arithmeticAddress Arithmetic.arithmeticReads Arithmetic.settled Arithmetic.shift Arithmetic.arithmeticEffect
+    Effects.addressBy Effects.readsBy Effects.effectBy
     codeBase
-    Steps.home Steps.inside Steps.committed Steps.finished Steps.performed Steps.planned Steps.executed Steps.stepOf
+    Steps.home Steps.inside Steps.committed Steps.finished Steps.performed Steps.operandAddress Steps.planned Steps.executed Steps.stepOf
     Runs.onMoved Runs.runFrom Runs.refusal Runs.opened Runs.closed Runs.taken Runs.runOf
 keeps-machine eax others word h p =
     let k = kept (Registers.bitsFrom 0 8 eax) (Word.flagsOf word) (byte eax) in

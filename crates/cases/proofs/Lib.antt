@@ -1,3 +1,4 @@
--- The proof of the table of `cases`. Assumes nothing.
+-- The proofs of the tables of `cases`. Assumes nothing.
 pub mod Keeping
 pub mod Holding
+pub mod Bits

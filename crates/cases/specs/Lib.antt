@@ -1,3 +1,4 @@
 -- The definitions of `cases`. Assumes nothing.
 pub mod Lines
 pub mod Table
+pub mod Bits

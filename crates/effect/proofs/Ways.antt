@@ -166,6 +166,8 @@ arithmetic-course Arithmetic.Imul m p a r = falling (of-becomes (halves-set (fla
 arithmetic-course Arithmetic.ImulLow m p a r = settled-course _ m p a
 arithmetic-course Arithmetic.Div m p a r = quotient-course _ m p
 arithmetic-course Arithmetic.Idiv m p a r = quotient-course _ m p
+arithmetic-course (Arithmetic.Bits op) m p a r = settled-course _ m p a
+arithmetic-course (Arithmetic.BitString op) m p a r = settled-course _ m p a
 
 -- an operation that moves a value falls
 move-course : (op : Move) (m : Machine) (p : Plan) (a r : ℕ) → Course m p false (moveEffect op m p a r)
@@ -181,6 +183,7 @@ move-course Move.Bswap m p a r = falling (of-assign (on m p) _ a _ _)
 move-course (Move.Set n) m p a r = falling (of-assign (on m p) _ a _ _)
 move-course Move.Lahf m p a r = falling (of-becomes (part-set (on m p) _ _ _))
 move-course Move.Sahf m p a r = falling (of-becomes (flags-set (on m p) _))
+move-course (Move.MovIf n) m p a r = falling (of-assign (on m p) _ a _ _)
 
 -- an operation on the stack falls, but for a call, which leads or goes through its operand, and a return
 stack-course : (op : Stack) (m : Machine) (p : Plan) (a r : ℕ) → Course m p (indirectStack op) (stackEffect op m p a r)

@@ -1,4 +1,4 @@
--- Operations that compute: what each does, beside 003's page for it. m is the machine before, a the effective address, r what was read. Assumes nothing.
+-- Operations that compute: what each does, beside 003's page for it. m is the machine before, a where the operand in memory is, r what was read. Assumes nothing.
 use mathlib.Core.Bool.{Bool, true, false, cond}
 use Prim.Native.Nat.{ℕ}
 use Rattle.width.specs.declared.Size.{Size}
@@ -24,7 +24,22 @@ use Rattle.plan.specs.declared.Plan.{Plan}
 use Rattle.effect.specs.declared.arithmetic.Computed.{Computed}
 use Rattle.effect.specs.declared.outcome.Effect.{Effect}
 use Rattle.effect.specs.declared.outcome.Reads.{Reads}
+use Rattle.effect.specs.Bits.{unitOf, bitTested, bitsComputed}
 use Rattle.effect.specs.Words.{becomes, faults, onward, value, assign, readOr, readOf}
+
+-- where the operand in memory is: at the effective address; of a string of bits, the unit that holds the bit
+unfoldable pub arithmeticAddress : Arithmetic → Machine → Plan → ℕ → ℕ
+arithmeticAddress (Arithmetic.Binary op) m p a = a
+arithmeticAddress Arithmetic.Test m p a = a
+arithmeticAddress (Arithmetic.Single op) m p a = a
+arithmeticAddress (Arithmetic.Shift op) m p a = a
+arithmeticAddress Arithmetic.Mul m p a = a
+arithmeticAddress Arithmetic.Imul m p a = a
+arithmeticAddress Arithmetic.ImulLow m p a = a
+arithmeticAddress Arithmetic.Div m p a = a
+arithmeticAddress Arithmetic.Idiv m p a = a
+arithmeticAddress (Arithmetic.Bits op) m p a = a
+arithmeticAddress (Arithmetic.BitString op) m p a = unitOf m p a
 
 -- the memory operand is read, be it source or destination
 unfoldable pub arithmeticReads : Plan → ℕ → Reads
@@ -127,3 +142,9 @@ arithmeticEffect Arithmetic.ImulLow m p a r =
     settled (multipliedLow (p .size) (value (p .source) m r (p .size)) (value (p .other) m r (p .size)) (m .flags)) m p a
 arithmeticEffect Arithmetic.Div m p a r = divided m p (value (p .destination) m r (p .size))
 arithmeticEffect Arithmetic.Idiv m p a r = dividedSigned m p (value (p .destination) m r (p .size))
+arithmeticEffect (Arithmetic.Bits op) m p a r =
+    settled
+    (bitsComputed op (p .size) (value (p .destination) m r (p .size)) (value (p .source) m r (p .size)) (value (p .other) m r Byte) (m .flags))
+    m p a
+arithmeticEffect (Arithmetic.BitString op) m p a r =
+    settled (bitTested op (p .size) (value (p .destination) m r (p .size)) (value (p .source) m r (p .size)) (m .flags)) m p a

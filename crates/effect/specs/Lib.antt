@@ -1,5 +1,6 @@
 -- The definitions of `effect`. Assumes nothing.
 pub mod Words
+pub mod Bits
 pub mod Arithmetic
 pub mod Moves
 pub mod Stacks

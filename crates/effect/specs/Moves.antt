@@ -1,5 +1,5 @@
 -- Operations that move a value or set flags: what each does, beside 003's page for it. m is the machine before, a the effective address, r what was read. Assumes nothing.
-use mathlib.Core.Bool.{Bool, true, false, not}
+use mathlib.Core.Bool.{Bool, true, false, cond, not}
 use Prim.Native.Nat.{ℕ}
 use Rattle.width.specs.declared.Size.{Size}
 use Rattle.width.specs.declared.Size.the-variants.{Byte, Word, Dword}
@@ -17,7 +17,7 @@ use Rattle.effect.specs.declared.outcome.Reads.{Reads}
 use Rattle.effect.specs.declared.outcome.Reads.the-variants.{Nothing}
 use Rattle.effect.specs.Words.{becomes, onward, value, assign, assigned, readOf}
 
--- the source is read, by MOVZX and MOVSX at its own size; of XCHG the destination
+-- the source is read, by MOVZX and MOVSX at its own size, by CMOVcc whether its condition is met or not; of XCHG the destination
 unfoldable pub moveReads : Move → Plan → ℕ → Reads
 moveReads Move.Mov p a = readOf (p .source) a (p .size)
 moveReads (Move.MovZero from) p a = readOf (p .source) a from
@@ -30,10 +30,15 @@ moveReads Move.Bswap p a = Nothing
 moveReads (Move.Set n) p a = Nothing
 moveReads Move.Lahf p a = Nothing
 moveReads Move.Sahf p a = Nothing
+moveReads (Move.MovIf n) p a = readOf (p .source) a (p .size)
 
 -- 003 "XCHG": DEST and SRC change places
 unfoldable pub exchanged : Machine → Plan → ℕ → ℕ → ℕ → Effect
 exchanged m p a x y = assign (p .destination) a (assigned (p .source) (onward m p) (p .size) x) (p .size) y
+
+-- 003 "CMOVcc": SRC if the condition is met, else what DEST was
+unfoldable pub chosen : ℕ → Machine → Plan → ℕ → ℕ
+chosen n m p r = cond (meets n (m .flags)) (value (p .source) m r (p .size)) (value (p .destination) m r (p .size))
 
 -- half a size
 unfoldable pub smaller : Size → Size
@@ -68,6 +73,7 @@ moveEffect (Move.Set n) m p a r = assign (p .destination) a (onward m p) (p .siz
 moveEffect Move.Lahf m p a r = becomes (withPart (onward m p) Byte 4 (ahOf (m .flags)))
 -- 003 "SAHF": the flags ← AH
 moveEffect Move.Sahf m p a r = becomes (withFlags (onward m p) (fromAh (part m Byte 4) (m .flags)))
+moveEffect (Move.MovIf n) m p a r = assign (p .destination) a (onward m p) (p .size) (chosen n m p r)
 
 -- the flags with another CF
 unfoldable pub withCf : Flags → Bool → Flags

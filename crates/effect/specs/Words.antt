@@ -34,7 +34,7 @@ value (Register i) m r w = part m w i
 value Memory m r w = r
 value (Number n) m r w = n
 
--- v assigned to an operand, where a is the effective address
+-- v assigned to an operand, where a is its address if it lies in memory
 unfoldable pub assign : Operand → ℕ → Machine → Size → ℕ → Effect
 assign (Register i) a m w v = becomes (withPart m w i v)
 assign Memory a m w v = writes m w a v
@@ -46,7 +46,7 @@ assigned (Register i) m w v = withPart m w i v
 assigned Memory m w v = m
 assigned (Number n) m w v = m
 
--- a read of an operand, where it lies in memory, at the effective address a; else what is read besides
+-- a read of an operand, where it lies in memory, at the address a; else what is read besides
 unfoldable pub readOr : Operand → ℕ → Size → Reads → Reads
 readOr (Register i) a w besides = besides
 readOr Memory a w besides = One w a

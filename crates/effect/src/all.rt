@@ -1,4 +1,5 @@
-// What the operation of a plan reads, and then does.
+// Where the operand in memory of a plan's operation is, what it reads, and then does.
+use crate::arithmetic::arithmetic_address;
 use crate::arithmetic::arithmetic_effect;
 use crate::arithmetic::arithmetic_reads;
 use crate::branches::branch_effect;
@@ -16,9 +17,23 @@ use machine::registers::Machine;
 use plan::Plan;
 use sense::Operation;
 ghost use mathlib.Core.Path.{_≡_};
-ghost use Rattle.effect.specs.All.{readsBy, effectBy};
+ghost use Rattle.effect.specs.All.{addressBy, readsBy, effectBy};
 
-// What it reads, in this order, where a is the effective address.
+// Where its operand in memory is, where a is the effective address.
+pub fn address_by(operation: Operation, m: Machine, p: Plan, a: u32) -> u32
+    ensures { λ r. ⌜ r ≡ addressBy operation m p a ⌝ }
+{
+    match operation {
+        Operation::Arithmetic(op) => arithmetic_address(op, m, p, a),
+        Operation::Move(_) => a,
+        Operation::Flagging(_) => a,
+        Operation::Stack(_) => a,
+        Operation::Branch(_) => a,
+        Operation::Strings(_) => a,
+    }
+}
+
+// What it reads, in this order, where a is that address.
 pub fn reads_by(operation: Operation, m: Machine, p: Plan, a: u32) -> Reads
     ensures { λ r. ⌜ r ≡ readsBy operation m p a ⌝ }
 {
@@ -32,7 +47,7 @@ pub fn reads_by(operation: Operation, m: Machine, p: Plan, a: u32) -> Reads
     }
 }
 
-// What it does, where a is the effective address, and r and s are what was read.
+// What it does, where a is that address, and r and s are what was read.
 pub fn effect_by(operation: Operation, m: Machine, p: Plan, a: u32, r: u32, s: u32) -> Effect
     ensures { λ e. ⌜ e ≡ effectBy operation m p a r s ⌝ }
 {

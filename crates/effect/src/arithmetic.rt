@@ -1,4 +1,6 @@
 // Operations that compute: what each reads, and then does.
+use crate::bitwise::bits_computed;
+use crate::bitwise::unit_of;
 use crate::outcome::Effect;
 use crate::outcome::Reads;
 use crate::words::assign;
@@ -15,10 +17,30 @@ use machine::registers::Machine;
 use plan::Plan;
 use product::Division;
 use sense::Arithmetic;
+use sense::Bits;
 use shift::Shift;
 use width::Size;
 ghost use mathlib.Core.Path.{_≡_};
 ghost use Rattle.effect.specs.Arithmetic as Op;
+
+// Where the operand in memory is: at the effective address; of a string of bits, the unit that holds the bit.
+pub fn arithmetic_address(op: Arithmetic, m: Machine, p: Plan, a: u32) -> u32
+    ensures { λ r. ⌜ r ≡ Op.arithmeticAddress op m p a ⌝ }
+{
+    match op {
+        Arithmetic::Binary(_) => a,
+        Arithmetic::Test => a,
+        Arithmetic::Single(_) => a,
+        Arithmetic::Shift(_) => a,
+        Arithmetic::Mul => a,
+        Arithmetic::Imul => a,
+        Arithmetic::ImulLow => a,
+        Arithmetic::Div => a,
+        Arithmetic::Idiv => a,
+        Arithmetic::Bits(_) => a,
+        Arithmetic::BitString(_) => unit_of(m, p, a),
+    }
+}
 
 // The memory operand is read, be it source or destination.
 pub fn arithmetic_reads(p: Plan, a: u32) -> Reads
@@ -31,10 +53,10 @@ pub fn arithmetic_reads(p: Plan, a: u32) -> Reads
 }
 
 // What an operation computes: the flags, and a value that is assigned to DEST or not.
-struct Computed {
-    flags: Flags,
-    value: u32,
-    assigned: bool,
+pub struct Computed {
+    pub flags: Flags,
+    pub value: u32,
+    pub assigned: bool,
 }
 
 // Whether a binary operation assigns its value: CMP does not.
@@ -227,6 +249,11 @@ pub fn arithmetic_effect(op: Arithmetic, m: Machine, p: Plan, a: u32, r: u32) ->
         }
         Arithmetic::Div => return divided(m, p, x),
         Arithmetic::Idiv => return divided_signed(m, p, x),
+        Arithmetic::Bits(o) => {
+            let t = p.other;
+            bits_computed(o, w, x, y, value(t, m, r, Size::Byte), f)
+        }
+        Arithmetic::BitString(o) => bits_computed(Bits::Test(o), w, x, y, 0, f),
     };
     settled(c, m, p, a)
 }

@@ -16,7 +16,7 @@ ghost use Rattle.machine.specs.Registers.{part, withPart, withFlags};
 ghost use Rattle.effect.specs.Words as W;
 ghost use Rattle.effect.specs.Moves as M;
 
-// The source is read, by MOVZX and MOVSX at its own size; of XCHG the destination.
+// The source is read, by MOVZX and MOVSX at its own size, by CMOVcc whether its condition is met or not; of XCHG the destination.
 pub fn move_reads(op: Move, p: Plan, a: u32) -> Reads
     ensures { λ r. ⌜ r ≡ M.moveReads op p a ⌝ }
 {
@@ -35,6 +35,7 @@ pub fn move_reads(op: Move, p: Plan, a: u32) -> Reads
         Move::Set(_) => Reads::Nothing,
         Move::Lahf => Reads::Nothing,
         Move::Sahf => Reads::Nothing,
+        Move::MovIf(_) => words::read_of(s, a, w),
     }
 }
 
@@ -116,6 +117,20 @@ fn told(n: u32, f: Flags) -> u32
     width::bit(flags::meets(n, f)) as u32
 }
 
+// CMOVcc: SRC if the condition is met, else what DEST was.
+fn chosen(m: Machine, p: Plan, r: u32, n: u32) -> u32
+    ensures { λ v. ⌜ v ≡ M.chosen n m p r ⌝ }
+{
+    let f = m.flags;
+    let w = p.size;
+    if flags::meets(n, f) {
+        let s = p.source;
+        return words::value(s, m, r, w);
+    }
+    let d = p.destination;
+    words::value(d, m, r, w)
+}
+
 // What the operation does.
 pub fn move_effect(op: Move, m: Machine, p: Plan, a: u32, r: u32) -> Effect
     ensures { λ e. ⌜ e ≡ M.moveEffect op m p a r ⌝ }
@@ -136,6 +151,7 @@ pub fn move_effect(op: Move, m: Machine, p: Plan, a: u32, r: u32) -> Effect
         Move::Set(n) => told(n, f),
         Move::Lahf => return ah_loaded(m, p),
         Move::Sahf => return ah_stored(m, p),
+        Move::MovIf(n) => chosen(m, p, r, n),
     };
     words::assign(d, a, words::onward(m, p), w, v)
 }

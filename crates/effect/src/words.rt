@@ -66,7 +66,7 @@ pub fn value(o: Operand, m: Machine, r: u32, w: Size) -> u32
     }
 }
 
-// v assigned to an operand, where a is the effective address.
+// v assigned to an operand, where a is its address if it lies in memory.
 pub fn assign(o: Operand, a: u32, m: Machine, w: Size, v: u32) -> Effect
     ensures { λ r. ⌜ r ≡ W.assign o a m w v ⌝ }
 {
@@ -88,7 +88,7 @@ pub fn assigned(o: Operand, m: Machine, w: Size, v: u32) -> Machine
     }
 }
 
-// A read of an operand, where it lies in memory, at the effective address a; else what is read besides.
+// A read of an operand, where it lies in memory, at the address a; else what is read besides.
 pub fn read_or(o: Operand, a: u32, w: Size, besides: Reads) -> Reads
     ensures { λ r. ⌜ r ≡ W.readOr o a w besides ⌝ }
 {

@@ -1,4 +1,4 @@
--- The sixteen conditions of 003 "Jcc" and "SETcc". Assumes nothing.
+-- The sixteen conditions of 003 "Jcc", "SETcc" and "CMOVcc". Assumes nothing.
 use mathlib.Core.Bool.{Bool, Bool·beq, not, _&&_, _||_}
 use mathlib.Core.List.{List, [], _∷_}
 use Prim.Native.Nat.{ℕ, _%_}

@@ -8,10 +8,9 @@ use lib.Dec.{eqb}
 use borrow.Author.Tests.{ne-eqb}
 use Rattle.grammar.specs.Choice.{pick}
 use Rattle.grammar.specs.Opcodes.{ruleOf}
-use Rattle.grammar.specs.Grammar.{allows, allows66, allowsRepeat}
+use Rattle.grammar.specs.Grammar.{regOf, allows66, allowsRepeat}
 use Rattle.grammar.specs.Reading.{Tree, none, byte}
 use Rattle.grammar.specs.Decoding.{tailTree, addressTree, modrmTree, hasModrm, operandTree, accepts, acceptsEntry, entryTree, opcodeTree, escapes, escapeTree, firstTree, sizeTree, repeatTree, tree}
-use Rattle.grammar.specs.declared.rule.ModRM.{ModRM}
 use Rattle.grammar.specs.declared.rule.Immediate.{Immediate}
 use Rattle.grammar.specs.declared.rule.Repeat.{Repeat}
 use Rattle.grammar.specs.declared.rule.Rule.{Rule}
@@ -19,6 +18,7 @@ use Rattle.grammar.specs.declared.rule.Entry.{Entry}
 use Rattle.grammar.specs.declared.instruction.Decoded.{Decoded}
 use Rattle.grammar.proofs.Below.{both-hold, both-right-held, some-number}
 use Rattle.grammar.proofs.Trees.{Ends, Live, here, read, nowhere, ends-then, live-then}
+use Rattle.grammar.proofs.Completions.{completing, allows-completing, completing-small, completing-66}
 use Rattle.grammar.proofs.Escapes.{opcodes-accept}
 use Rattle.grammar.proofs.Unlisted.{unlisted-0F}
 
@@ -55,22 +55,13 @@ live-address : (kind : Immediate) (d : Decoded) → Live (addressTree kind d)
 unfolding addressTree
 live-address kind d = live-then _ _ (λ sib a. ends-tail _ _ _) (λ sib a. live-tail _ _ _)
 
--- memory and reg field 0 are allowed by every rule
-allows-zero : (g : ModRM) → hasModrm g ≡ true → allows g 0 ≡ true
-allows-zero ModRM.Absent e = e
-allows-zero ModRM.Any e = refl
-allows-zero ModRM.Memory e = refl
-allows-zero ModRM.AllBut6 e = refl
-allows-zero ModRM.Only0 e = refl
-allows-zero ModRM.AllBut1 e = refl
-allows-zero ModRM.Only01 e = refl
-allows-zero ModRM.Only01246 e = refl
-
-module _ (rule : Rule) (d : Decoded) (size : allows66 (rule .size) (d .narrow) 0 ≡ true) where
+module _ (rule : Rule) (d : Decoded) (size : allows66 (rule .size) (d .narrow) (regOf (completing (rule .modrm))) ≡ true) where
   -- what follows an opcode whose rule takes the prefixes
   ends-modrm : hasModrm (rule .modrm) ≡ true → Ends (modrmTree rule d)
   unfolding modrmTree
-  ends-modrm has = read 0 (omega arith) (ends-yes none (both-hold (allows-zero (rule .modrm) has) size) (ends-address _ _))
+  ends-modrm has =
+      read (completing (rule .modrm)) (completing-small (rule .modrm))
+      (ends-yes none (both-hold (allows-completing (rule .modrm) has) size) (ends-address _ _))
 
   ends-operand : Ends (operandTree rule d)
   unfolding operandTree
@@ -86,26 +77,31 @@ module _ (rule : Rule) (d : Decoded) (size : allows66 (rule .size) (d .narrow) 0
       live-pick (hasModrm (rule .modrm)) (λ has. read (ends-modrm has) (λ m small. live-pick _ (λ e. live-address _ _) nowhere))
       (live-tail _ _ _)
 
-module _ (n : ℕ) (narrow : Bool) (repeat : Repeat) where
+module _ (n : ℕ) (narrow : Bool) (repeat : Repeat) (k : ℕ) where
+  -- an opcode's rule that takes the prefixes takes them with a ModR/M byte that completes it
+  size-taken : {rule : Rule} → ruleOf k ≡ Entry.Listed rule → accepts narrow repeat rule ≡ true
+      → allows66 (rule .size) narrow (regOf (completing (rule .modrm))) ≡ true
+  unfolding accepts
+  size-taken {rule} listed accepted = completing-66 narrow k listed (both-right-held (allowsRepeat (rule .repeats) repeat) _ accepted)
+
   -- what follows an opcode
-  ends-entry : (k : ℕ) (e : Entry) → acceptsEntry narrow repeat e ≡ true → Ends (entryTree n narrow repeat k e)
-  unfolding entryTree acceptsEntry accepts
-  ends-entry k Entry.Unlisted accepted = absurd (let z : _≡_ {A = ℕ} 0 1 = cc in omega arith)
-  ends-entry k (Entry.Listed rule) accepted = ends-yes none accepted (ends-operand rule _ (both-right-held (allowsRepeat (rule .repeats) repeat) _ accepted))
+  ends-entry : (e : Entry) → ruleOf k ≡ e → acceptsEntry narrow repeat e ≡ true → Ends (entryTree n narrow repeat k e)
+  unfolding entryTree acceptsEntry
+  ends-entry Entry.Unlisted listed accepted = absurd (let z : _≡_ {A = ℕ} 0 1 = cc in omega arith)
+  ends-entry (Entry.Listed rule) listed accepted = ends-yes none accepted (ends-operand rule _ (size-taken listed accepted))
 
-  live-entry : (k : ℕ) (e : Entry) → Live (entryTree n narrow repeat k e)
-  unfolding entryTree accepts
-  live-entry k Entry.Unlisted = nowhere
-  live-entry k (Entry.Listed rule) =
-      live-pick _ (λ accepted. live-operand rule _ (both-right-held (allowsRepeat (rule .repeats) repeat) _ accepted)) nowhere
+  live-entry : (e : Entry) → ruleOf k ≡ e → Live (entryTree n narrow repeat k e)
+  unfolding entryTree
+  live-entry Entry.Unlisted listed = nowhere
+  live-entry (Entry.Listed rule) listed = live-pick _ (λ accepted. live-operand rule _ (size-taken listed accepted)) nowhere
 
-  ends-opcode : (k : ℕ) → acceptsEntry narrow repeat (ruleOf k) ≡ true → Ends (opcodeTree n narrow repeat k)
+  ends-opcode : acceptsEntry narrow repeat (ruleOf k) ≡ true → Ends (opcodeTree n narrow repeat k)
   unfolding opcodeTree
-  ends-opcode k accepted = ends-entry k (ruleOf k) accepted
+  ends-opcode accepted = ends-entry (ruleOf k) refl accepted
 
-  live-opcode : (k : ℕ) → Live (opcodeTree n narrow repeat k)
+  live-opcode : Live (opcodeTree n narrow repeat k)
   unfolding opcodeTree
-  live-opcode k = live-entry k (ruleOf k)
+  live-opcode = live-entry (ruleOf k) refl
 
 module _ (n : ℕ) (narrow : Bool) (repeat : Repeat) where
   -- what follows 0F

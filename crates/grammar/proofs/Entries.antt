@@ -31,7 +31,7 @@ says-other (l ∷ ls) other k none = by (both (leb (l .first) k) (leb k (l .last
     by false none later = later none
 
 -- an opcode that the lists do not name has no rule
-without-rule : (k : ℕ) → lists forms k ≡ false → ruleOf k ≡ Entry.Unlisted
+pub without-rule : (k : ℕ) → lists forms k ≡ false → ruleOf k ≡ Entry.Unlisted
 unfolding ruleOf
 without-rule k none =
     ap (λ (f : Form). entryOf f (listed with66 Prefix66.Refused k) (repeatsOf (listed withF2 false k) (listed withF3 false k)))

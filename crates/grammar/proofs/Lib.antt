@@ -8,6 +8,7 @@ pub mod Finding
 pub mod Operands
 pub mod Unlisted
 pub mod Exact
+pub mod Completions
 pub mod Endings
 pub mod Answered
 pub mod Eleven

@@ -56,6 +56,7 @@ allows-has ModRM.Only0 m e = refl
 allows-has ModRM.AllBut1 m e = refl
 allows-has ModRM.Only01 m e = refl
 allows-has ModRM.Only01246 m e = refl
+allows-has ModRM.Only4567 m e = refl
 
 -- no test both holds and fails
 clash : {A : Type 0} → true ≡ false → A
@@ -71,6 +72,7 @@ has-none ModRM.Only0 e = clash e
 has-none ModRM.AllBut1 e = clash e
 has-none ModRM.Only01 e = clash e
 has-none ModRM.Only01246 e = clash e
+has-none ModRM.Only4567 e = clash e
 
 -- an operand and an immediate as an opcode's rule asks, in bytes and in numbers
 pub record Operands (rule : Rule) (d x : Decoded) (bytes : List ℕ) : Type 0 where

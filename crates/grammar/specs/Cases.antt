@@ -1,4 +1,4 @@
--- Document 01's case 13: what some bytes are, by the grammar.
+-- Document 01's case 13 and cases of M-100: what some bytes are, by the grammar.
 -- Assumes nothing.
 use mathlib.Core.List.{List, [], _∷_}
 use Prim.Native.Nat.{ℕ}
@@ -6,7 +6,7 @@ use Rattle.grammar.specs.Grammar.{Instruction}
 use Rattle.grammar.specs.Answers.{Answers}
 use Rattle.grammar.specs.declared.instruction.Found.{Found}
 
--- what document 01 says of some bytes
+-- what is said of some bytes
 pub data Saying : Type 0 where
   cut : Saying
   unknown : Saying
@@ -43,4 +43,22 @@ case13 =
     ∷ case (0x66 ∷ 0x66 ∷ []) unknown
     ∷ case (0xF3 ∷ 0x66 ∷ 0xA5 ∷ []) one
     ∷ case (0x66 ∷ 0xF3 ∷ 0xA5 ∷ []) one
+    ∷ []
+
+-- M-100: 0F BA has /4 to /7 alone, and imm8; 0F A4 has imm8, 0F A5 none; 66 is allowed, F2 and F3 are not; 0F 50 is none
+unfoldable pub cases-M-100 : List BytesCase
+cases-M-100 =
+    case (0x0F ∷ 0xBA ∷ 0xC0 ∷ 0x01 ∷ []) unknown
+    ∷ case (0x0F ∷ 0xBA ∷ 0xD8 ∷ 0x01 ∷ []) unknown
+    ∷ case (0x0F ∷ 0xBA ∷ 0xE0 ∷ 0x01 ∷ []) one
+    ∷ case (0x0F ∷ 0xBA ∷ 0xF8 ∷ 0x01 ∷ []) one
+    ∷ case (0x0F ∷ 0xBA ∷ []) cut
+    ∷ case (0x0F ∷ 0xBA ∷ 0xE0 ∷ []) cut
+    ∷ case (0x0F ∷ 0xA4 ∷ 0xC0 ∷ []) cut
+    ∷ case (0x0F ∷ 0xA4 ∷ 0xC0 ∷ 0x01 ∷ []) one
+    ∷ case (0x0F ∷ 0xA5 ∷ 0xC0 ∷ []) one
+    ∷ case (0x66 ∷ 0x0F ∷ 0xBC ∷ 0xC0 ∷ []) one
+    ∷ case (0xF3 ∷ 0x0F ∷ 0xBC ∷ 0xC0 ∷ []) unknown
+    ∷ case (0x0F ∷ 0x4F ∷ 0xC0 ∷ []) one
+    ∷ case (0x0F ∷ 0x50 ∷ 0xC0 ∷ []) unknown
     ∷ []

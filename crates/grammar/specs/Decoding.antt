@@ -105,6 +105,7 @@ hasModrm ModRM.Only0 = true
 hasModrm ModRM.AllBut1 = true
 hasModrm ModRM.Only01 = true
 hasModrm ModRM.Only01246 = true
+hasModrm ModRM.Only4567 = true
 
 -- what follows the opcode
 unfoldable pub operandTree : Rule → Decoded → Tree Decoded

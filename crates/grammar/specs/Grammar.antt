@@ -131,6 +131,7 @@ allows ModRM.Only0 m = eqb (regOf m) 0
 allows ModRM.AllBut1 m = not (eqb (regOf m) 1)
 allows ModRM.Only01 m = leb (regOf m) 1
 allows ModRM.Only01246 m = only01246 (regOf m)
+allows ModRM.Only4567 m = leb 4 (regOf m)
 
 -- the operand: none, or a ModR/M byte with SIB and displacement
 pub data Operand : Type 0 where

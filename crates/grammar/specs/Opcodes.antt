@@ -1,4 +1,4 @@
--- The opcodes, line by line as document 01 lists them. An opcode is a number: 00 to FF alone, 100 to 1FF after 0F.
+-- The opcodes, line by line as document 01 lists them, and then document 02. An opcode is a number: 00 to FF alone, 100 to 1FF after 0F.
 -- Assumes nothing.
 use mathlib.Core.Bool.{Bool, true, false}
 use mathlib.Core.List.{List, [], _∷_, _++_}
@@ -6,7 +6,7 @@ use Prim.Native.Nat.{ℕ, _+_, _*_}
 use lib.Dec.{leb}
 use Rattle.grammar.specs.Choice.{pick, both, either}
 use Rattle.grammar.specs.declared.rule.ModRM.{ModRM}
-use Rattle.grammar.specs.declared.rule.ModRM.the-variants.{Any, Memory, AllBut6, Only0, AllBut1, Only01, Only01246}
+use Rattle.grammar.specs.declared.rule.ModRM.the-variants.{Any, Memory, AllBut6, Only0, AllBut1, Only01, Only01246, Only4567}
 use Rattle.grammar.specs.declared.rule.Immediate.{Immediate}
 use Rattle.grammar.specs.declared.rule.Immediate.the-variants.{Imm8, Imm16, Imm32, ImmV, Address, Rel8, Rel32, Imm8For0, ImmVFor0}
 use Rattle.grammar.specs.declared.rule.Prefix66.{Prefix66}
@@ -87,6 +87,11 @@ forms =
     ∷ from 0x190 0x19F (modrm Any) ∷ at 0x1AF (modrm Any)
     ∷ at 0x1B6 (modrm Any) ∷ at 0x1B7 (modrm Any) ∷ at 0x1BE (modrm Any) ∷ at 0x1BF (modrm Any)
     ∷ from 0x1C8 0x1CF plain
+    -- M-100: 0F 40-4F; 0F A3, AB, B3, BB; 0F BA /4 to /7 imm8; 0F BC, BD; 0F A4, A5, AC, AD, of which A4 and AC have imm8: all with ModR/M
+    ∷ from 0x140 0x14F (modrm Any)
+    ∷ at 0x1A3 (modrm Any) ∷ at 0x1AB (modrm Any) ∷ at 0x1B3 (modrm Any) ∷ at 0x1BB (modrm Any) ∷ at 0x1BA (form Only4567 Imm8)
+    ∷ at 0x1BC (modrm Any) ∷ at 0x1BD (modrm Any)
+    ∷ at 0x1A4 (form Any Imm8) ∷ at 0x1A5 (modrm Any) ∷ at 0x1AC (form Any Imm8) ∷ at 0x1AD (modrm Any)
     ∷ []
 
 -- ALU forms 1, 3, 5
@@ -106,6 +111,11 @@ with66 =
     ∷ at 0xD1 Allowed ∷ at 0xD3 Allowed ∷ at 0xF7 Allowed
     ∷ at 0xFF Prefix66.Only01
     ∷ at 0x1AF Allowed ∷ at 0x1B6 Allowed ∷ at 0x1BE Allowed
+    -- and all of M-100's
+    ∷ from 0x140 0x14F Allowed
+    ∷ at 0x1A3 Allowed ∷ at 0x1AB Allowed ∷ at 0x1B3 Allowed ∷ at 0x1BB Allowed ∷ at 0x1BA Allowed
+    ∷ at 0x1BC Allowed ∷ at 0x1BD Allowed
+    ∷ at 0x1A4 Allowed ∷ at 0x1A5 Allowed ∷ at 0x1AC Allowed ∷ at 0x1AD Allowed
     ∷ []
 
 -- F3 only before these

@@ -13,10 +13,10 @@ use Rattle.grammar.specs.declared.rule.Entry.{Entry}
 
 -- the lowest digit: the words by their numbers, and from there on the last word
 abbrev pub modrmWords : List ModRM
-modrmWords = ModRM.Absent ∷ ModRM.Any ∷ ModRM.Memory ∷ ModRM.AllBut6 ∷ ModRM.Only0 ∷ ModRM.AllBut1 ∷ ModRM.Only01 ∷ []
+modrmWords = ModRM.Absent ∷ ModRM.Any ∷ ModRM.Memory ∷ ModRM.AllBut6 ∷ ModRM.Only0 ∷ ModRM.AllBut1 ∷ ModRM.Only01 ∷ ModRM.Only01246 ∷ []
 
 abbrev pub modrmAt : ℕ → ModRM
-modrmAt digit = getD modrmWords digit ModRM.Only01246
+modrmAt digit = getD modrmWords digit ModRM.Only4567
 
 -- the second digit: the words by their numbers, and from there on the last word
 abbrev pub immediateWords : List Immediate

@@ -21,6 +21,7 @@ pub fn has_modrm(rule: ModRM) -> bool
         ModRM::AllBut1 => true,
         ModRM::Only01 => true,
         ModRM::Only01246 => true,
+        ModRM::Only4567 => true,
     }
 }
 
@@ -51,6 +52,7 @@ pub fn allows_modrm(rule: ModRM, m: u8) -> bool
         ModRM::AllBut1 => field != 1,
         ModRM::Only01 => field <= 1,
         ModRM::Only01246 => is_01246(field),
+        ModRM::Only4567 => 4 <= field,
     }
 }
 

@@ -10,6 +10,7 @@ pub enum ModRM {
     AllBut1,
     Only01,
     Only01246,
+    Only4567,
 }
 
 // The bytes after ModR/M, SIB and displacement. ImmV is 4 bytes, or 2 under 66. Imm8For0 and ImmVFor0 stand only with reg field 0.

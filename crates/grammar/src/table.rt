@@ -24,6 +24,8 @@ const ONLY_0_1: u16 = 0x0006;
 
 const ONLY_0_1_2_4_6: u16 = 0x0007;
 
+const ONLY_4_5_6_7: u16 = 0x0008;
+
 // The second: which immediate.
 const IMM8: u16 = 0x0010;
 
@@ -93,6 +95,8 @@ const ALL_BUT_1_IMM8_FOR_0: u16 = ALL_BUT_1 + IMM8_FOR_0;
 const ALL_BUT_1_IMM_V_FOR_0_66: u16 = ALL_BUT_1 + IMM_V_FOR_0 + WITH_66;
 
 const ONLY_0_1_2_4_6_66: u16 = ONLY_0_1_2_4_6 + WITH_66_FOR_0_1;
+
+const ONLY_4_5_6_7_IMM8_66: u16 = ONLY_4_5_6_7 + IMM8 + WITH_66;
 
 // No such opcode.
 const UNLISTED: u16 = 0xFFFF;
@@ -339,6 +343,34 @@ fn entry(opcode: usize) -> u16
         0x1CD => ALONE, // BSWAP
         0x1CE => ALONE, // BSWAP
         0x1CF => ALONE, // BSWAP
+        // M-100: 0F 40-4F; 0F A3, AB, B3, BB; 0F BA /4 to /7 imm8; 0F BC, BD; 0F A4, A5, AC, AD, of which A4 and AC have imm8: all with ModR/M.
+        0x140 => MODRM_66, // CMOVcc
+        0x141 => MODRM_66, // CMOVcc
+        0x142 => MODRM_66, // CMOVcc
+        0x143 => MODRM_66, // CMOVcc
+        0x144 => MODRM_66, // CMOVcc
+        0x145 => MODRM_66, // CMOVcc
+        0x146 => MODRM_66, // CMOVcc
+        0x147 => MODRM_66, // CMOVcc
+        0x148 => MODRM_66, // CMOVcc
+        0x149 => MODRM_66, // CMOVcc
+        0x14A => MODRM_66, // CMOVcc
+        0x14B => MODRM_66, // CMOVcc
+        0x14C => MODRM_66, // CMOVcc
+        0x14D => MODRM_66, // CMOVcc
+        0x14E => MODRM_66, // CMOVcc
+        0x14F => MODRM_66, // CMOVcc
+        0x1A3 => MODRM_66, // BT
+        0x1AB => MODRM_66, // BTS
+        0x1B3 => MODRM_66, // BTR
+        0x1BB => MODRM_66, // BTC
+        0x1BA => ONLY_4_5_6_7_IMM8_66, // BT BTS BTR BTC
+        0x1BC => MODRM_66, // BSF
+        0x1BD => MODRM_66, // BSR
+        0x1A4 => MODRM_IMM8_66, // SHLD
+        0x1A5 => MODRM_66, // SHLD
+        0x1AC => MODRM_IMM8_66, // SHRD
+        0x1AD => MODRM_66, // SHRD
         _ => UNLISTED,
     }
 }
@@ -355,7 +387,8 @@ fn modrm_of(digit: u16) -> ModRM
         4 => ModRM::Only0,
         5 => ModRM::AllBut1,
         6 => ModRM::Only01,
-        _ => ModRM::Only01246,
+        7 => ModRM::Only01246,
+        _ => ModRM::Only4567,
     }
 }
 

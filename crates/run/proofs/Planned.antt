@@ -12,13 +12,12 @@ use Rattle.machine.specs.declared.memory.Stored.the-variants.{Done}
 use Rattle.machine.specs.Memory.{loadOf}
 use Rattle.machine.proofs.Access.{store-length}
 use Rattle.plan.specs.declared.Plan.{Plan}
-use Rattle.plan.specs.Addresses.{effectiveAddress}
 use Rattle.effect.specs.declared.outcome.Outcome.{Outcome}
 use Rattle.effect.specs.declared.outcome.Outcome.the-variants.{Becomes, Writes, Faults}
 use Rattle.effect.specs.declared.outcome.Reads.{Reads}
 use Rattle.effect.specs.declared.outcome.Reads.the-variants.{Nothing, One, Two}
 use Rattle.effect.specs.All.{effectBy}
-use Rattle.run.specs.Steps.{Moved, next, stop, stored, committed, finished, loaded, performed, planned}
+use Rattle.run.specs.Steps.{Moved, next, stop, stored, committed, finished, loaded, performed, operandAddress, planned}
 
 -- the step of a plan goes on to the machine of its effect, with data of the same length, or stops with a number from 5 to 7
 pub data Comes (p : Plan) (m : Machine) (a : ℕ) (d : List ℕ) : Moved → Type 0 where
@@ -29,7 +28,7 @@ pub data Comes (p : Plan) (m : Machine) (a : ℕ) (d : List ℕ) : Moved → Typ
 pub record Effected (p : Plan) (m after : Machine) : Type 0 where
   pub r : ℕ
   pub s : ℕ
-  pub is : after ≡ (effectBy (p .operation) m p (effectiveAddress m (p .address)) r s) .machine
+  pub is : after ≡ (effectBy (p .operation) m p (operandAddress p m) r s) .machine
 
 module _ (p : Plan) (m : Machine) (a : ℕ) (d : List ℕ) where
   -- so it is with a write
@@ -65,7 +64,7 @@ module _ (p : Plan) (m : Machine) (a : ℕ) (d : List ℕ) where
 
 module _ (p : Plan) (m : Machine) (d : List ℕ) where
   -- with the step of a plan
-  pub planned-comes : Comes p m (effectiveAddress m (p .address)) d (planned p m d)
+  pub planned-comes : Comes p m (operandAddress p m) d (planned p m d)
   unfolding planned
   planned-comes = performed-comes p m _ d _
 
@@ -73,7 +72,7 @@ module _ (p : Plan) (m : Machine) (d : List ℕ) where
   pub planned-stops : {n a : ℕ} → planned p m d ≡ stop n a → (5 ≤ n) × (n ≤ 7)
   planned-stops {n} {a} = by planned-comes
     where
-      by : {moved : Moved} → Comes p m (effectiveAddress m (p .address)) d moved → moved ≡ stop n a → (5 ≤ n) × (n ≤ 7)
+      by : {moved : Moved} → Comes p m (operandAddress p m) d moved → moved ≡ stop n a → (5 ≤ n) × (n ≤ 7)
       by (goes-on r s l) e = absurd (let z : _≡_ {A = ℕ} 0 1 = cc in omega arith)
       by (stops k l h) e = let z : n ≡ k = cc in (omega arith, omega arith)
 
@@ -81,6 +80,6 @@ module _ (p : Plan) (m : Machine) (d : List ℕ) where
   pub planned-goes : {m′ : Machine} {d′ : List ℕ} → planned p m d ≡ next m′ d′ → Effected p m m′
   planned-goes {m′} {d′} = by planned-comes
     where
-      by : {moved : Moved} → Comes p m (effectiveAddress m (p .address)) d moved → moved ≡ next m′ d′ → Effected p m m′
+      by : {moved : Moved} → Comes p m (operandAddress p m) d moved → moved ≡ next m′ d′ → Effected p m m′
       by (goes-on r s l) e = record { r = r; s = s; is = cc }
       by (stops k l h) e = absurd (let z : _≡_ {A = ℕ} 0 1 = cc in omega arith)

@@ -20,7 +20,6 @@ use Rattle.blockcheck.specs.Blocks.{codeBase}
 use Rattle.sense.specs.declared.Strings.{Strings}
 use Rattle.sense.specs.declared.Operation.{Operation}
 use Rattle.plan.specs.declared.Plan.{Plan}
-use Rattle.plan.specs.Addresses.{effectiveAddress}
 use Rattle.plan.specs.Plans.{nextOf, planFor, planOf}
 use Rattle.effect.specs.declared.outcome.Effect.{Effect}
 use Rattle.effect.specs.declared.outcome.Reads.the-variants.{Nothing}
@@ -29,7 +28,7 @@ use Rattle.effect.specs.Branches.{ecx}
 use Rattle.effect.specs.Strings.{idle, stringReads, stringEffect}
 use Rattle.effect.specs.All.{readsBy, effectBy}
 use Rattle.effect.proofs.Repeats.{none-left, counts, as-many, goes-on}
-use Rattle.run.specs.Steps.{next, committed, finished, performed, planned, executed, stepOf}
+use Rattle.run.specs.Steps.{next, committed, finished, performed, operandAddress, planned, executed, stepOf}
 use Rattle.run.specs.Runs.{onMoved, runFrom}
 use Rattle.run.proofs.Planned.{planned-goes}
 use Rattle.run.specs.Repetitions.{After, here, on, Repeating, Left, Over, stepsFor}
@@ -106,7 +105,7 @@ module _ {code : List ℕ} {i : Decoded} {op : Strings} {m : Machine} (at : Repe
     unfolding planned performed finished committed becomes onward
     only-moves-on none =
         let p = planOf (m .eip) i in
-        let a = effectiveAddress m (p .address) in
+        let a = operandAddress p m in
         is-planned ∙ rw (reads-nothing a none, is-effect a 0 0 ∙ none-left op m p 0 0 (at .prefix) none)
 
     -- otherwise a step that is not stopped does one round, ECX less 1

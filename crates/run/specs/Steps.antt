@@ -22,7 +22,7 @@ use Rattle.effect.specs.declared.outcome.Outcome.the-variants.{Becomes, Writes,
 use Rattle.effect.specs.declared.outcome.Effect.{Effect}
 use Rattle.effect.specs.declared.outcome.Reads.{Reads}
 use Rattle.effect.specs.declared.outcome.Reads.the-variants.{Nothing, One, Two}
-use Rattle.effect.specs.All.{readsBy, effectBy}
+use Rattle.effect.specs.All.{addressBy, readsBy, effectBy}
 use Rattle.run.specs.declared.step.Stepped.{Stepped}
 
 -- what a step comes to: the next machine and data, or a number and an address, and then nothing has changed
@@ -49,7 +49,7 @@ committed Becomes e m d = next (e .machine) d
 committed Writes e m d = stored (storedOf d (e .size) (e .address)) e d
 committed Faults e m d = stop 7 (m .eip)
 
--- the effect of a plan with what was read, where a is the effective address
+-- the effect of a plan with what was read, where a is where its operand in memory is
 unfoldable pub finished : Plan → Machine → ℕ → List ℕ → ℕ → ℕ → Moved
 finished p m a d r s = committed ((effectBy (p .operation) m p a r s) .outcome) (effectBy (p .operation) m p a r s) m d
 
@@ -64,9 +64,13 @@ performed Nothing p m a d = finished p m a d 0 0
 performed (One w b) p m a d = loaded (loadOf d w b) (λ r. finished p m a d r 0)
 performed (Two w b c) p m a d = loaded (loadOf d w b) (λ r. loaded (loadOf d w c) (λ s. finished p m a d r s))
 
+-- where a plan's operand in memory is
+unfoldable pub operandAddress : Plan → Machine → ℕ
+operandAddress p m = addressBy (p .operation) m p (effectiveAddress m (p .address))
+
 -- the step of a plan
 unfoldable pub planned : Plan → Machine → List ℕ → Moved
-planned p m d = let a = effectiveAddress m (p .address) in performed (readsBy (p .operation) m p a) p m a d
+planned p m d = let a = operandAddress p m in performed (readsBy (p .operation) m p a) p m a d
 
 -- 3: cut; 4: no such instruction
 unfoldable pub executed : Found → Machine → List ℕ → Moved

@@ -1,6 +1,7 @@
 // One step: the tests for 1 to 7 in their order. Only this module sees the lent data: it loads, and then stores at most once, last.
 use crate::site::site_at;
 use crate::site::take;
+use effect::all::address_by;
 use effect::all::effect_by;
 use effect::all::reads_by;
 use effect::outcome::Effect;
@@ -77,7 +78,7 @@ fn commit(e: Effect, m: Machine, area: &mut [u8]) -> Stepped
     }
 }
 
-// The effect of a plan with what was read, where a is the effective address.
+// The effect of a plan with what was read, where a is where its operand in memory is.
 fn finish(p: Plan, m: Machine, a: u32, area: &mut [u8], r: u32, s: u32) -> Stepped
     ensures { λ t. ⌜ Steps (finished p m a (now (area .entry)) r s) m (now (area .entry)) t (now (area .exit)) ⌝ }
 {
@@ -149,7 +150,7 @@ pub fn follow(p: Plan, m: Machine, area: &mut [u8]) -> Stepped
 {
     let op = p.operation;
     let address = p.address;
-    let a = plan::effective_address(m, address);
+    let a = address_by(op, m, p, plan::effective_address(m, address));
     perform(reads_by(op, m, p, a), p, m, a, area)
 }
 

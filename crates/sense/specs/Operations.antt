@@ -6,6 +6,9 @@ use Rattle.width.specs.declared.Size.the-variants.{Byte, Word}
 use Rattle.arith.specs.declared.Binary.{Binary}
 use Rattle.arith.specs.declared.Single.the-variants.{Inc, Dec, Not, Neg}
 use Rattle.shift.specs.declared.Shift.{Shift}
+use Rattle.bits.specs.declared.BitTest.{BitTest}
+use Rattle.bits.specs.declared.Scan.{Scan}
+use Rattle.bits.specs.declared.DoubleShift.{DoubleShift}
 use Rattle.sense.specs.declared.Kind.{Kind}
 use Rattle.sense.specs.declared.Arithmetic.{Arithmetic}
 use Rattle.sense.specs.declared.Move.{Move}
@@ -13,6 +16,7 @@ use Rattle.sense.specs.declared.Flagging.{Flagging}
 use Rattle.sense.specs.declared.Stack.{Stack}
 use Rattle.sense.specs.declared.Branch.{Branch}
 use Rattle.sense.specs.declared.Strings.{Strings}
+use Rattle.sense.specs.declared.Bits.{Bits}
 use Rattle.sense.specs.declared.Operation.{Operation}
 
 -- ADD OR ADC SBB AND SUB XOR, by three bits
@@ -57,6 +61,14 @@ lastWords =
 -- and PUSH is /6; no instruction has /7
 unfoldable pub lastAt : ℕ → Operation
 lastAt n = getD lastWords n (Operation.Stack Stack.Push)
+
+-- BT BTS BTR, by two bits of the opcode; 0F BA has them as /4 to /6
+abbrev pub bitTestWords : List BitTest
+bitTestWords = BitTest.Bt ∷ BitTest.Bts ∷ BitTest.Btr ∷ []
+
+-- and BTC from there on, /7
+unfoldable pub bitTestAt : ℕ → BitTest
+bitTestAt n = getD bitTestWords n BitTest.Btc
 
 -- the operation of a kind, with the opcode and the ModR/M byte's reg field
 unfoldable pub operationOf : Kind → ℕ → ℕ → Operation
@@ -104,3 +116,10 @@ operationOf Kind.Cmps opcode field = Operation.Strings Strings.Cmps
 operationOf Kind.Stos opcode field = Operation.Strings Strings.Stos
 operationOf Kind.Lods opcode field = Operation.Strings Strings.Lods
 operationOf Kind.Scas opcode field = Operation.Strings Strings.Scas
+operationOf Kind.MovIf opcode field = Operation.Move (Move.MovIf (opcode % 16))
+operationOf Kind.BitTest opcode field = Operation.Arithmetic (Arithmetic.BitString (bitTestAt (opcode / 8 % 4)))
+operationOf Kind.BitTestGroup opcode field = Operation.Arithmetic (Arithmetic.Bits (Bits.Test (bitTestAt (field % 4))))
+operationOf Kind.Bsf opcode field = Operation.Arithmetic (Arithmetic.Bits (Bits.Scan Scan.Bsf))
+operationOf Kind.Bsr opcode field = Operation.Arithmetic (Arithmetic.Bits (Bits.Scan Scan.Bsr))
+operationOf Kind.Shld opcode field = Operation.Arithmetic (Arithmetic.Bits (Bits.Double DoubleShift.Shld))
+operationOf Kind.Shrd opcode field = Operation.Arithmetic (Arithmetic.Bits (Bits.Double DoubleShift.Shrd))

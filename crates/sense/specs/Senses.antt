@@ -1,4 +1,4 @@
--- What each opcode means, in the order of document 01's lists; 003's opcode maps (appendix A) have the same.
+-- What each opcode means, in the order of document 01's lists, and then document 02's; 003's opcode maps (appendix A) have the same.
 -- An opcode is a number: 00 to FF alone, 100 to 1FF after 0F. Assumes nothing.
 use mathlib.Core.Bool.{true, false}
 use mathlib.Core.List.{List, [], _∷_, _++_}
@@ -66,6 +66,12 @@ senses =
     ∷ at 0x1B6 (wide Kind.MovZeroByte Reg Rm) ∷ at 0x1B7 (wide Kind.MovZeroWord Reg Rm)
     ∷ at 0x1BE (wide Kind.MovSignByte Reg Rm) ∷ at 0x1BF (wide Kind.MovSignWord Reg Rm)
     ∷ from 0x1C8 0x1CF (wide Kind.Bswap OpcodeRegister Absent)
+    ∷ from 0x140 0x14F (wide Kind.MovIf Reg Rm)
+    ∷ at 0x1A3 (wide Kind.BitTest Rm Reg) ∷ at 0x1AB (wide Kind.BitTest Rm Reg)
+    ∷ at 0x1B3 (wide Kind.BitTest Rm Reg) ∷ at 0x1BB (wide Kind.BitTest Rm Reg) ∷ at 0x1BA (wide Kind.BitTestGroup Rm Immediate)
+    ∷ at 0x1BC (wide Kind.Bsf Reg Rm) ∷ at 0x1BD (wide Kind.Bsr Reg Rm)
+    ∷ at 0x1A4 (three Kind.Shld Rm Reg Immediate) ∷ at 0x1A5 (three Kind.Shld Rm Reg Cl)
+    ∷ at 0x1AC (three Kind.Shrd Rm Reg Immediate) ∷ at 0x1AD (three Kind.Shrd Rm Reg Cl)
     ∷ []
 
 -- what an opcode means; one that is not listed would move nothing to nowhere

@@ -5,8 +5,18 @@ pub mod table;
 
 use arith::Binary;
 use arith::Single;
+use bits::BitTest;
+use bits::DoubleShift;
+use bits::Scan;
 use shift::Shift;
 use width::Size;
+
+// Operations on the bits of a number.
+pub enum Bits {
+    Test(BitTest),
+    Scan(Scan),
+    Double(DoubleShift),
+}
 
 // Operations that compute a value or flags.
 pub enum Arithmetic {
@@ -20,9 +30,12 @@ pub enum Arithmetic {
     ImulLow,
     Div,
     Idiv,
+    Bits(Bits),
+    // A bit test whose offset is in a register, by which the operand in memory is a string of bits.
+    BitString(BitTest),
 }
 
-// Operations that move a value. MovZero and MovSign have the source's size, Set its condition.
+// Operations that move a value. MovZero and MovSign have the source's size, Set and MovIf their condition.
 pub enum Move {
     Mov,
     MovZero(Size),
@@ -37,6 +50,8 @@ pub enum Move {
     Set(u32),
     Lahf,
     Sahf,
+    // CMOVcc.
+    MovIf(u32),
 }
 
 // Operations on the flags alone.
@@ -155,6 +170,13 @@ pub enum Kind {
     Stos,
     Lods,
     Scas,
+    MovIf,
+    BitTest,
+    BitTestGroup,
+    Bsf,
+    Bsr,
+    Shld,
+    Shrd,
 }
 
 // What an opcode means. `byte`: its operands are bytes; else words under 66, and doublewords without.

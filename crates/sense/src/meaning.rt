@@ -13,6 +13,10 @@ const RM_RM: u32 = 0x0110;
 
 const RM_REG: u32 = 0x0120;
 
+const RM_REG_IMM: u32 = 0x0125;
+
+const RM_REG_CL: u32 = 0x0129;
+
 const RM_IMM: u32 = 0x0150;
 
 const RM_SIGNED: u32 = 0x0160;
@@ -102,6 +106,16 @@ pub const LOOPE: u32 = 0x24_0000;
 pub const LOOP: u32 = 0x25_0000;
 
 pub const JECXZ: u32 = 0x26_0000;
+
+pub const MOV_IF: u32 = 0x2C_0000 + REG_RM;
+
+pub const BIT_TEST: u32 = 0x2D_0000 + RM_REG;
+
+pub const BIT_TEST_GROUP: u32 = 0x2E_0000 + RM_IMM;
+
+pub const BSF: u32 = 0x2F_0000 + REG_RM;
+
+pub const BSR: u32 = 0x30_0000 + REG_RM;
 
 // ADD to CMP, by three bits of the opcode.
 const ALU: u32 = 0x00_0000;
@@ -253,3 +267,17 @@ const SCAS: u32 = 0x2B_0000;
 pub const SCAS_BYTE: u32 = SCAS + BYTES;
 
 pub const SCAS_WIDE: u32 = SCAS;
+
+// SHLD.
+const SHLD: u32 = 0x31_0000;
+
+pub const SHLD_RM_REG_IMM: u32 = SHLD + RM_REG_IMM;
+
+pub const SHLD_RM_REG_CL: u32 = SHLD + RM_REG_CL;
+
+// SHRD.
+const SHRD: u32 = 0x32_0000;
+
+pub const SHRD_RM_REG_IMM: u32 = SHRD + RM_REG_IMM;
+
+pub const SHRD_RM_REG_CL: u32 = SHRD + RM_REG_CL;

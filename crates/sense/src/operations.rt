@@ -1,5 +1,6 @@
 // Which operation an opcode names: by the reg field in a group, by the opcode's own bits elsewhere.
 use crate::Arithmetic;
+use crate::Bits;
 use crate::Branch;
 use crate::Flagging;
 use crate::Kind;
@@ -9,10 +10,13 @@ use crate::Stack;
 use crate::Strings;
 use arith::Binary;
 use arith::Single;
+use bits::BitTest;
+use bits::DoubleShift;
+use bits::Scan;
 use shift::Shift;
 use width::Size;
 ghost use mathlib.Core.Path.{_≡_};
-ghost use Rattle.sense.specs.Operations.{binaryAt, shiftAt, productAt, incDecAt, lastAt, operationOf};
+ghost use Rattle.sense.specs.Operations.{binaryAt, shiftAt, productAt, incDecAt, lastAt, bitTestAt, operationOf};
 
 // By three bits of the opcode, or the reg field.
 fn binary_at(number: u32) -> Binary
@@ -86,6 +90,18 @@ fn last_at(number: u32) -> Operation
     }
 }
 
+// By two bits of the opcode, or of the reg field.
+fn bit_test_at(number: u32) -> BitTest
+    ensures { λ r. ⌜ r ≡ bitTestAt number ⌝ }
+{
+    match number {
+        0 => BitTest::Bt,
+        1 => BitTest::Bts,
+        2 => BitTest::Btr,
+        _ => BitTest::Btc,
+    }
+}
+
 // The operation of a kind, with the opcode and the ModR/M byte's reg field.
 pub fn operation(kind: Kind, opcode: usize, field: u32) -> Operation
     ensures { λ r. ⌜ r ≡ operationOf kind opcode field ⌝ }
@@ -135,5 +151,16 @@ pub fn operation(kind: Kind, opcode: usize, field: u32) -> Operation
         Kind::Stos => Operation::Strings(Strings::Stos),
         Kind::Lods => Operation::Strings(Strings::Lods),
         Kind::Scas => Operation::Strings(Strings::Scas),
+        Kind::MovIf => Operation::Move(Move::MovIf((opcode % 16) as u32)),
+        Kind::BitTest => {
+            Operation::Arithmetic(Arithmetic::BitString(bit_test_at((opcode / 8 % 4) as u32)))
+        }
+        Kind::BitTestGroup => {
+            Operation::Arithmetic(Arithmetic::Bits(Bits::Test(bit_test_at(field % 4))))
+        }
+        Kind::Bsf => Operation::Arithmetic(Arithmetic::Bits(Bits::Scan(Scan::Bsf))),
+        Kind::Bsr => Operation::Arithmetic(Arithmetic::Bits(Bits::Scan(Scan::Bsr))),
+        Kind::Shld => Operation::Arithmetic(Arithmetic::Bits(Bits::Double(DoubleShift::Shld))),
+        Kind::Shrd => Operation::Arithmetic(Arithmetic::Bits(Bits::Double(DoubleShift::Shrd))),
     }
 }

@@ -4,6 +4,7 @@ use borrow.Author.Needs.{needs}
 use Rattle.effect.proofs.arithmetic.arithmetic_effect.Statement.{statement}
 use Rattle.effect.proofs.arithmetic.arithmetic_effect.Tie as tie
 use Rattle.effect.specs.Arithmetic.{arithmeticEffect}
+use Rattle.effect.specs.Bits.{bitsComputed}
 
 returns : tie.Need-returns
 unfolding arithmeticEffect
@@ -22,7 +23,7 @@ unfolding arithmeticEffect
 returns-4 c = simp (c .divided-signed .ensures, c .before .enum-told6 .given .1, c .before .before .before .before .value .ensures)
 
 returns-5 : tie.Need-returns-5
-unfolding arithmeticEffect
+unfolding arithmeticEffect bitsComputed
 returns-5 c =
     elim (c .before .match .came) [
       | inl w ↦ simp (c .settled .ensures, w .4, w .3 .ensures, w .1 .given .1, c .before .before .value2 .ensures, c .before .before .before .value .ensures)
@@ -32,7 +33,13 @@ returns-5 c =
           | inl w ↦ simp (c .settled .ensures, w .4, w .3 .ensures, w .1 .given .1, c .before .before .before .value .ensures)
           | inr v ↦ elim v [
             | inl w ↦ simp (c .settled .ensures, w .5, w .4 .ensures, w .3 .ensures, w .1 .given .1, c .before .before .before .value .ensures)
-            | inr w ↦ simp (c .settled .ensures, w .4, w .3 .ensures, w .2 .ensures, w .1 .given .1, c .before .before .value2 .ensures)
+            | inr v ↦ elim v [
+              | inl w ↦ simp (c .settled .ensures, w .4, w .3 .ensures, w .2 .ensures, w .1 .given .1, c .before .before .value2 .ensures)
+              | inr v ↦ elim v [
+                | inl w ↦ simp (c .settled .ensures, w .5, w .4 .ensures, w .3 .ensures, w .1 .given .1, c .before .before .value2 .ensures, c .before .before .before .value .ensures)
+                | inr w ↦ simp (c .settled .ensures, w .4, w .3 .ensures, w .1 .given .1, c .before .before .value2 .ensures, c .before .before .before .value .ensures)
+              ]
+            ]
           ]
         ]
       ]
@@ -68,5 +75,10 @@ arithmetic-effect-spec =
     (λ c. search needs)
     (λ c κs. search needs)
     returns-4
+    (λ c. search needs)
+    (λ c κs. search needs)
+    (λ c κs. search needs)
+    (λ c. search needs)
+    (λ c κs. search needs)
     (λ c κs. search needs)
     returns-5)

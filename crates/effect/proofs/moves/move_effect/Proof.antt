@@ -38,7 +38,10 @@ returns-6 c =
             | inl w ↦ simp (c .assign .ensures, c .before .onward .ensures, w .2, w .1 .given .1)
             | inr v ↦ elim v [
               | inl w ↦ simp (c .assign .ensures, c .before .onward .ensures, w .4, w .3 .ensures, w .2 .ensures, w .1 .given .1)
-              | inr w ↦ simp (c .assign .ensures, c .before .onward .ensures, w .4, w .3 .ensures, w .1 .given .1)
+              | inr v ↦ elim v [
+                | inl w ↦ simp (c .assign .ensures, c .before .onward .ensures, w .4, w .3 .ensures, w .1 .given .1)
+                | inr w ↦ simp (c .assign .ensures, c .before .onward .ensures, w .4, w .3 .ensures, w .1 .given .1)
+              ]
             ]
           ]
         ]
@@ -77,6 +80,8 @@ move-effect-spec =
     (λ c. search needs)
     (λ c κs. search needs)
     returns-5
+    (λ c. search needs)
+    (λ c κs. search needs)
     (λ c κs. search needs)
     (λ c κs. search needs)
     returns-6)

@@ -48,6 +48,10 @@ returns-11 : tie.Need-returns-11
 unfolding moveReads
 returns-11 c = simp (c .enum-told9 .given .1)
 
+returns-12 : tie.Need-returns-12
+unfolding moveReads
+returns-12 c = simp (c .read-of5 .ensures, c .before .enum-told10 .given .1)
+
 pub move-reads-spec : {M : Type 1} → statement M
 move-reads-spec =
     tie.close
@@ -67,6 +71,8 @@ move-reads-spec =
     (λ c. search needs)
     (λ c. search needs)
     (λ c. search needs)
+    (λ c. search needs)
+    (λ c κs. search needs)
     returns
     returns-2
     returns-3
@@ -77,4 +83,5 @@ move-reads-spec =
     returns-8
     returns-9
     returns-10
-    returns-11)
+    returns-11
+    returns-12)

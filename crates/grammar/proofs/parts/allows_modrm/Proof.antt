@@ -22,6 +22,9 @@ returns-7 c = rw (c .enum-told7 .given .1)
 returns-8 : tie.Need-returns-8
 returns-8 c = rw (c .before .enum-told8 .given .1) (c .is-01246 .ensures)
 
+returns-9 : tie.Need-returns-9
+returns-9 c = rw (c .enum-told9 .given .1)
+
 pub allows-modrm-spec : {M : Type 1} → statement M
 allows-modrm-spec =
     tie.close
@@ -37,9 +40,11 @@ allows-modrm-spec =
     (λ c κs. search needs)
     (λ c. search needs)
     (λ c. search needs)
+    (λ c. search needs)
     returns-3
     returns-4
     returns-5
     returns-6
     returns-7
-    returns-8)
+    returns-8
+    returns-9)

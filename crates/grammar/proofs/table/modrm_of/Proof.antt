@@ -8,8 +8,8 @@ use Rattle.grammar.proofs.Below.{default}
 use Rattle.grammar.proofs.table.modrm_of.Statement.{statement}
 use Rattle.grammar.proofs.table.modrm_of.Tie as tie
 
-returns-8 : tie.Need-returns-8
-returns-8 c = sym (default modrmWords ModRM.Only01246 (c .before .args .digit) (c .match .rest))
+returns-9 : tie.Need-returns-9
+returns-9 c = sym (default modrmWords ModRM.Only4567 (c .before .args .digit) (c .match .rest))
 
 pub modrm-of-spec : {M : Type 1} → statement M
-modrm-of-spec = tie.close (tie.spec (λ c. search needs) (λ c. search needs) (λ c. search needs) (λ c. search needs) (λ c. search needs) (λ c. search needs) (λ c. search needs) returns-8)
+modrm-of-spec = tie.close (tie.spec (λ c. search needs) (λ c. search needs) (λ c. search needs) (λ c. search needs) (λ c. search needs) (λ c. search needs) (λ c. search needs) (λ c. search needs) returns-9)
