@@ -29,7 +29,7 @@ pub trait Other {
 pub enum Difference {
     /// In something other than flags that 003 leaves undefined.
     Defined,
-    /// Only in flags that 003 leaves undefined and document 01 keeps.
+    /// Only in flags that 003 leaves undefined, and that are 0 by document 02 (M-101).
     Policy,
 }
 

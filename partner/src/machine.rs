@@ -95,7 +95,7 @@ pub struct FlagEffect {
     pub written: u32,
     /// The new bits of the written flags.
     pub values: u32,
-    /// Flags that 003 leaves undefined here; they keep their old value.
+    /// Flags that 003 leaves undefined here.
     pub undefined: u32,
 }
 
@@ -134,9 +134,9 @@ impl Machine {
         self.flags & flag != 0
     }
 
-    /// Writes the written flags; all others keep their value.
+    /// Writes the written flags and clears the undefined ones (document 02, M-101); all others keep their value.
     pub fn apply(&mut self, effect: FlagEffect) {
-        self.flags = (self.flags & !effect.written) | (effect.values & effect.written);
+        self.flags = (self.flags & !(effect.written | effect.undefined)) | (effect.values & effect.written);
     }
 }
 

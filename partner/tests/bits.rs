@@ -1,4 +1,5 @@
-//! Document 02's M-100: conditional moves, bit tests, scans and double shifts, worked out by hand from 003.
+//! Document 02's M-100: conditional moves, bit tests, scans and double shifts, worked out by hand from 003; flags that
+//! it leaves undefined are clear (M-101).
 
 use partner::machine::{Machine, AF, CF, CODE_BASE, DATA_BASE, OF, PF, SF, STATUS, ZF};
 use partner::run::{run, Outcome};
@@ -115,30 +116,29 @@ fn a_conditional_move_reads_even_if_its_condition_is_false() {
 #[test]
 fn bits_of_registers_go_modulo_the_width() {
     for old in [0, STATUS] {
-        let kept = old & NOT_CF;
         // BT EAX, ECX: bit 2 of 4 by 2, 34 and -30, bit 3 by 3.
         for (offset, carry) in [(2, CF), (34, CF), (0xFFFF_FFE2, CF), (3, 0), (0xFFFF_FFFF, 0)] {
             let registers = [(EAX, 4), (ECX, offset)];
-            finished(&[0x0F, 0xA3, 0xC8], &registers, old, &registers, kept | carry, NOT_CF);
+            finished(&[0x0F, 0xA3, 0xC8], &registers, old, &registers, carry, NOT_CF);
         }
         // BT AX, CX: 17 is bit 1, 16 is bit 0, whatever the high halves hold.
         for (offset, carry) in [(17, CF), (16, 0), (0xFFFF_0001, CF), (0xFFF1, CF)] {
             let registers = [(EAX, 0x0001_0002), (ECX, offset)];
-            finished(&[0x66, 0x0F, 0xA3, 0xC8], &registers, old, &registers, kept | carry, NOT_CF);
+            finished(&[0x66, 0x0F, 0xA3, 0xC8], &registers, old, &registers, carry, NOT_CF);
         }
         // BTS, BTR and BTC EAX, ECX at bit 31, clear and set.
         for (opcode, from_clear, from_set) in [(0xAB, 0x8000_0001, 0x8000_0001), (0xB3, 1, 1), (0xBB, 0x8000_0001, 1)] {
             for (eax, result, carry) in [(1, from_clear, 0), (0x8000_0001, from_set, CF)] {
                 let code = [0x0F, opcode, 0xC8];
-                finished(&code, &[(EAX, eax), (ECX, 63)], old, &[(EAX, result), (ECX, 63)], kept | carry, NOT_CF);
+                finished(&code, &[(EAX, eax), (ECX, 63)], old, &[(EAX, result), (ECX, 63)], carry, NOT_CF);
             }
         }
         // BTC EAX, 63; BTS AX, 255; BTR AX, 16.
-        finished(&[0x0F, 0xBA, 0xF8, 63], &[(EAX, 1)], old, &[(EAX, 0x8000_0001)], kept, NOT_CF);
-        finished(&[0x66, 0x0F, 0xBA, 0xE8, 255], &[], old, &[(EAX, 0x8000)], kept, NOT_CF);
-        finished(&[0x66, 0x0F, 0xBA, 0xF0, 16], &[(EAX, 0x1_0001)], old, &[(EAX, 0x1_0000)], kept | CF, NOT_CF);
+        finished(&[0x0F, 0xBA, 0xF8, 63], &[(EAX, 1)], old, &[(EAX, 0x8000_0001)], 0, NOT_CF);
+        finished(&[0x66, 0x0F, 0xBA, 0xE8, 255], &[], old, &[(EAX, 0x8000)], 0, NOT_CF);
+        finished(&[0x66, 0x0F, 0xBA, 0xF0, 16], &[(EAX, 0x1_0001)], old, &[(EAX, 0x1_0000)], CF, NOT_CF);
         // BTS ECX, ECX uses the offset before.
-        finished(&[0x0F, 0xAB, 0xC9], &[(ECX, 5)], old, &[(ECX, 0x25)], kept, NOT_CF);
+        finished(&[0x0F, 0xAB, 0xC9], &[(ECX, 5)], old, &[(ECX, 0x25)], 0, NOT_CF);
     }
 }
 
@@ -217,7 +217,7 @@ fn bit_tests_change_one_bit_of_memory() {
         for (fill, result, carry) in [(0xFF, from_set, CF), (0x00, from_clear, 0)] {
             let mut data = [fill; 8];
             let outcome = step(&[0x0F, opcode, 0x0B], &[(EBX, DATA_BASE), (ECX, 37)], ZF | OF, &mut data);
-            assert_eq!((outcome.machine.flags, outcome.undefined), (2 | ZF | OF | carry, NOT_CF));
+            assert_eq!((outcome.machine.flags, outcome.undefined), (2 | carry, NOT_CF));
             let expected = [fill, fill, fill, fill, result, fill, fill, fill];
             assert_eq!(data, expected, "{opcode:X} {fill:X}");
         }
@@ -250,7 +250,6 @@ fn an_immediate_offset_stays_in_the_unit() {
 #[test]
 fn scans_give_the_index_of_the_first_bit_set() {
     for old in [0, STATUS] {
-        let kept = old & NOT_ZF;
         // BSF and BSR EAX, ECX.
         for (source, forward, reverse) in [
             (1, 0, 0),
@@ -262,7 +261,7 @@ fn scans_give_the_index_of_the_first_bit_set() {
         ] {
             for (opcode, index) in [(0xBC, forward), (0xBD, reverse)] {
                 let before = [(EAX, 0xAAAA_AAAA), (ECX, source)];
-                finished(&[0x0F, opcode, 0xC1], &before, old, &[(EAX, index), (ECX, source)], kept, NOT_ZF);
+                finished(&[0x0F, opcode, 0xC1], &before, old, &[(EAX, index), (ECX, source)], 0, NOT_ZF);
             }
         }
         // BSF and BSR AX, CX see the low half and leave EAX's high half.
@@ -270,15 +269,15 @@ fn scans_give_the_index_of_the_first_bit_set() {
             for (opcode, index) in [(0xBC, forward), (0xBD, reverse)] {
                 let before = [(EAX, 0xAAAA_BBBB), (ECX, source)];
                 let after = [(EAX, 0xAAAA_0000 + index), (ECX, source)];
-                finished(&[0x66, 0x0F, opcode, 0xC1], &before, old, &after, kept, NOT_ZF);
+                finished(&[0x66, 0x0F, opcode, 0xC1], &before, old, &after, 0, NOT_ZF);
             }
         }
         // A zero source sets ZF and leaves the destination, at 16 bits too.
         for opcode in [0xBC, 0xBD] {
             let zero = [(EAX, 0xAAAA_BBBB)];
-            finished(&[0x0F, opcode, 0xC1], &zero, old, &zero, kept | ZF, NOT_ZF);
+            finished(&[0x0F, opcode, 0xC1], &zero, old, &zero, ZF, NOT_ZF);
             let low_zero = [(EAX, 0xAAAA_BBBB), (ECX, 0xFFFF_0000)];
-            finished(&[0x66, 0x0F, opcode, 0xC1], &low_zero, old, &low_zero, kept | ZF, NOT_ZF);
+            finished(&[0x66, 0x0F, opcode, 0xC1], &low_zero, old, &low_zero, ZF, NOT_ZF);
         }
     }
 }
@@ -297,9 +296,8 @@ fn scans_read_memory() {
 
 /// SHLD (A4h) or SHRD (ACh) EAX, EDX by an immediate and (one opcode on) by CL, from all flags clear and all set.
 fn shifts_double(opcode: u8, (eax, edx): (u32, u32), count: u8, result: u32, flags: u32, undefined: u32) {
-    let changed = STATUS & !undefined;
     for old in [0, STATUS] {
-        let after = if count & 31 == 0 { old } else { flags & changed | old & undefined };
+        let after = if count & 31 == 0 { old } else { flags };
         let (before, expected) = ([(EAX, eax), (EDX, edx)], [(EAX, result), (EDX, edx)]);
         finished(&[0x0F, opcode, 0xD0, count], &before, old, &expected, after, undefined);
         let cl = (ECX, u32::from(count) | 0xFFFF_FF00);
@@ -338,12 +336,11 @@ fn double_shifts_of_32_bits() {
     shifts_double(shrd, (0x8000_0000, 0x1234_5678), 31, 0x2468_ACF1, 0, AF | OF);
 }
 
-/// SHLD or SHRD AX, CX by an immediate under 66; the high halves stay.
+/// SHLD or SHRD AX, CX by an immediate under 66, from all flags set; the high halves stay.
 fn shifts_double_word(opcode: u8, (ax, cx): (u32, u32), count: u8, result: u32, flags: u32, undefined: u32) {
-    let after = flags & !undefined | STATUS & undefined;
     let (before, expected) =
         ([(EAX, 0x5555_0000 | ax), (ECX, 0x6666_0000 | cx)], [(EAX, 0x5555_0000 | result), (ECX, 0x6666_0000 | cx)]);
-    finished(&[0x66, 0x0F, opcode, 0xC8, count], &before, STATUS, &expected, after, undefined);
+    finished(&[0x66, 0x0F, opcode, 0xC8, count], &before, STATUS, &expected, flags, undefined);
 }
 
 #[test]
@@ -365,10 +362,10 @@ fn double_shifts_of_16_bits_below_at_and_over_the_width() {
         shifts_double_word(shrd, (0x4001, 0xABCD), count, 0xABCD, SF, AF | OF);
         shifts_double_word(shld, (0x8000, 0), count, 0, ZF | PF, AF | OF);
     }
-    // Over 16 everything keeps its value.
+    // Over 16 the destination keeps its value, and all six flags are cleared.
     for count in [17, 24, 31, 49] {
         for opcode in [shld, shrd] {
-            shifts_double_word(opcode, (0x1237, 0xABCD), count, 0x1237, STATUS, STATUS);
+            shifts_double_word(opcode, (0x1237, 0xABCD), count, 0x1237, 0, STATUS);
         }
     }
     // From clear flags they stay clear.
@@ -391,12 +388,12 @@ fn double_shifts_read_and_write_memory() {
     finished(&[0x0F, 0xA4, 0xC0, 8], &[(EAX, 0x1234_5678)], 0, &[(EAX, 0x3456_7812)], PF, AF | OF);
     // By 0 and over the width memory is still accessed, and keeps its value.
     for opcode in [0xA4, 0xAC] {
-        for count in [0, 17] {
+        for (count, flags) in [(0, STATUS), (17, 0)] {
             let code = [0x66, 0x0F, opcode, 0x0B, count];
             stopped(&code, &[(EBX, DATA_BASE + 3)], STATUS, 4, 5, DATA_BASE + 3);
             let mut data = [1, 2, 3, 4];
             let outcome = step(&code, &[(EBX, DATA_BASE + 1), (ECX, 0xFFFF)], STATUS, &mut data);
-            assert_eq!((outcome.number, outcome.machine.flags, data), (0, 2 | STATUS, [1, 2, 3, 4]));
+            assert_eq!((outcome.number, outcome.machine.flags, data), (0, 2 | flags, [1, 2, 3, 4]));
         }
         stopped(&[0x0F, opcode, 0x0B, 0], &[(EBX, DATA_BASE + 1)], STATUS, 4, 5, DATA_BASE + 1);
     }

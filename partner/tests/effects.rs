@@ -77,27 +77,27 @@ fn eip_outside_the_code() {
 }
 
 #[test]
-fn undefined_flags_keep_their_value_and_are_reported() {
+fn undefined_flags_are_cleared_and_reported() {
+    // Document 02's M-101 stands in place of document 01's sentence.
     for old in [0, STATUS] {
         // AND EAX, ECX.
         let and = step(&[0x21, 0xC8], machine(&[(EAX, 1), (ECX, 1)], old), &mut []);
-        assert_eq!((and.undefined, and.machine.flags & AF), (AF, old & AF));
+        assert_eq!((and.undefined, and.machine.flags), (AF, 2));
         // MUL ECX.
         let mul = step(&[0xF7, 0xE1], machine(&[(EAX, 2), (ECX, 3)], old), &mut []);
-        assert_eq!(mul.undefined, SF | ZF | AF | PF);
-        assert_eq!(mul.machine.flags, 2 | old & (SF | ZF | AF | PF));
+        assert_eq!((mul.undefined, mul.machine.flags), (SF | ZF | AF | PF, 2));
         // DIV ECX.
         let div = step(&[0xF7, 0xF1], machine(&[(EAX, 7), (ECX, 3)], old), &mut []);
-        assert_eq!((div.undefined, div.machine.flags), (STATUS, 2 | old));
+        assert_eq!((div.undefined, div.machine.flags), (STATUS, 2));
         // SHL AL, 8.
         let shl = shift_al(4, 1, 8, old);
-        assert_eq!((shl.undefined, shl.machine.flags & (CF | AF | OF)), (CF | AF | OF, old & (CF | AF | OF)));
+        assert_eq!((shl.undefined, shl.machine.flags), (CF | AF | OF, 2 | ZF | PF));
         // SHR AL, 2.
         let shr = shift_al(5, 0xFF, 2, old);
-        assert_eq!((shr.undefined, shr.machine.flags & (CF | OF)), (AF | OF, CF | old & OF));
+        assert_eq!((shr.undefined, shr.machine.flags), (AF | OF, 2 | CF | PF));
         // SAR AL, 31 has a defined carry.
         let sar = shift_al(7, 0x80, 31, old);
-        assert_eq!((sar.undefined, sar.machine.regs[EAX], sar.machine.flags & CF), (AF | OF, 0xFF, CF));
+        assert_eq!((sar.undefined, sar.machine.regs[EAX], sar.machine.flags), (AF | OF, 0xFF, 2 | CF | SF | PF));
     }
 }
 
@@ -199,10 +199,10 @@ fn rotates_copy_the_end_bit_and_rotate_through_carry_by_nine() {
         assert_eq!(shift_al(1, 0x80, count, 0).machine.flags & CF, CF);
         assert_eq!(shift_al(1, 0x01, count, CF).machine.flags & CF, 0);
     }
-    // RCL AL by 9, 18 and 27 changes nothing; OF is undefined there.
+    // RCL AL by 9, 18 and 27 only clears OF, which is undefined there.
     for count in [9, 18, 27] {
         let outcome = shift_al(2, 0x96, count, OF | CF);
-        assert_eq!((outcome.machine.regs[EAX], outcome.machine.flags), (0x96, 2 | OF | CF));
+        assert_eq!((outcome.machine.regs[EAX], outcome.machine.flags), (0x96, 2 | CF));
         assert_eq!(outcome.undefined, OF);
     }
     // RCL AL by 10 is a rotate by 1 whose OF is undefined.
