@@ -250,7 +250,7 @@ impl Generator {
     }
 
     /// One instruction of the next form in turn.
-    fn single(&mut self) -> RunCase {
+    pub fn single(&mut self) -> RunCase {
         let form = self.made % self.forms.len();
         self.made += 1;
         self.single_of(form)

@@ -1,13 +1,15 @@
 //! Counts of what a set of cases came to.
 
 mod bits;
+mod undefined;
 
 use std::collections::BTreeMap;
 use std::fmt::{self, Display, Formatter};
 
 use self::bits::Bits;
-use crate::decode::{Instruction, Operation, PREFIXES};
-use crate::machine::{CODE_BASE, HOME, MAX_BYTES};
+use self::undefined::Undefined;
+use crate::decode::{Instruction, Operand, Operation, PREFIXES};
+use crate::machine::{Machine, Width, CODE_BASE, ECX, HOME, MAX_BYTES};
 use crate::run::{Outcome, Seen};
 use crate::step::Step;
 use crate::text::{form, prefixes};
@@ -35,6 +37,14 @@ fn outside(address: u32, length: u32) -> Option<usize> {
     let places = [0, u32::MAX, CODE_BASE - 1, HOME, CODE_BASE + length];
     let past = address.wrapping_sub(CODE_BASE + MAX_BYTES as u32) < length;
     places.iter().position(|&place| place == address).or(past.then_some(places.len()))
+}
+
+/// The masked count of a shift, rotate or double shift.
+fn masked(count: Operand, before: &Machine) -> u32 {
+    match count {
+        Operand::Immediate(value) => value % 32,
+        _ => before.register(ECX, Width::Byte) % 32,
+    }
 }
 
 /// Finished steps, or runs, by the shapes of one group.
@@ -133,6 +143,7 @@ pub struct Coverage {
     sib: [Group; 3],
     prefixes: Group,
     bits: Bits,
+    undefined: Undefined,
     loops: Group,
     starts: Group,
     ends: Group,
@@ -175,6 +186,7 @@ impl Coverage {
             sib: [0, 1, 2].map(sib),
             prefixes: Group::new("prefix orders".to_string(), PREFIXES.iter().map(prefix_name)),
             bits: Bits::new(),
+            undefined: Undefined::new(),
             loops: runs("ways of going round", &LOOPS),
             starts: runs("starts outside the code", &OUTSIDE),
             ends: runs("ways out of the code", &OUTSIDE),
@@ -184,6 +196,7 @@ impl Coverage {
     /// Counts an instruction that a run came to.
     pub fn saw(&mut self, seen: &Seen) {
         self.bits.saw(seen);
+        self.undefined.saw(seen);
         let count = self.forms.entry(form(seen.bytes, seen.instruction)).or_default();
         match seen.stepped {
             Ok(step) => {
@@ -195,14 +208,19 @@ impl Coverage {
         }
     }
 
-    /// Whether a bit test, scan, double shift or conditional move has a shape that never came.
+    /// Whether the instruction has a shape that never came, of M-100's groups or M-101's.
     pub fn is_new(&self, seen: &Seen) -> bool {
-        self.bits.is_new(seen)
+        self.bits.is_new(seen) || self.undefined.is_new(seen)
     }
 
     /// Whether every shape of bit tests, scans, double shifts and conditional moves came.
     pub fn has_all_bits(&self) -> bool {
         self.bits.groups().all(Group::is_full)
+    }
+
+    /// Whether every shape of flags left undefined and of flags kept by a count of 0 came.
+    pub fn has_all_undefined(&self) -> bool {
+        self.undefined.groups().all(Group::is_full)
     }
 
     /// Counts the shapes of a finished step.
@@ -252,7 +270,8 @@ impl Coverage {
     /// The groups of shapes.
     fn groups(&self) -> impl Iterator<Item = &Group> {
         let runs = [&self.loops, &self.starts, &self.ends];
-        [&self.modrm].into_iter().chain(&self.sib).chain([&self.prefixes]).chain(self.bits.groups()).chain(runs)
+        let steps = [&self.modrm].into_iter().chain(&self.sib).chain([&self.prefixes]);
+        steps.chain(self.bits.groups()).chain(self.undefined.groups()).chain(runs)
     }
 
     /// Forms that never finished a step, and numbers and courses that never came.

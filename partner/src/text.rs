@@ -150,6 +150,11 @@ fn target_operand(target: Target) -> Operand {
     }
 }
 
+/// The instruction's name, with a repeat prefix before it.
+pub fn mnemonic(instruction: &Instruction) -> String {
+    parts(instruction).0
+}
+
 /// The instruction in assembler notation; relative targets are shown as displacements.
 pub fn disassembly(instruction: &Instruction) -> String {
     let (mnemonic, operands) = parts(instruction);

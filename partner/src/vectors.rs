@@ -91,16 +91,34 @@ fn write_check(lines: &mut Lines<impl Write>, case: &CheckCase) -> io::Result<()
     )
 }
 
-/// Whether the case's first step adds to what is covered of bit tests, scans, double shifts and conditional moves.
+/// Whether the case's first step has a shape of M-100's or M-101's groups that never came.
 fn adds(case: &RunCase, coverage: &Coverage) -> bool {
     let mut new = false;
     run_observed(case.machine, &case.code, &mut case.data.clone(), 1, |seen| new |= coverage.is_new(&seen));
     new
 }
 
-/// Writes the header and so many lines, first one finished step of each form, then steps for the shapes of bit tests,
-/// scans, double shifts and conditional moves still missing, and gives back what they cover. With another program the
-/// results are its own, but for the undefined flags.
+/// Writes at most so many steps with shapes that never came, until none is missing, and gives back how many.
+fn write_missing(
+    lines: &mut Lines<impl Write>,
+    most: u64,
+    has_all: fn(&Coverage) -> bool,
+    mut next: impl FnMut() -> RunCase,
+) -> io::Result<u64> {
+    let mut written = 0;
+    while written < most && !has_all(&lines.coverage) {
+        let case = RunCase { budget: 1, ..next() };
+        if adds(&case, &lines.coverage) {
+            write_run(lines, &case)?;
+            written += 1;
+        }
+    }
+    Ok(written)
+}
+
+/// Writes the header and so many lines, first one finished step of each form, then steps for the shapes of M-100's and
+/// M-101's groups still missing, and gives back what they cover. With another program the results are its own, but for
+/// the undefined flags.
 pub fn write_vectors(out: &mut impl Write, other: Option<&dyn Other>, seed: u64, count: u64) -> io::Result<Coverage> {
     let mut generator = Generator::new(seed, Size::Small);
     let names: Vec<String> = generator.form_names().map(str::to_string).collect();
@@ -111,13 +129,8 @@ pub fn write_vectors(out: &mut impl Write, other: Option<&dyn Other>, seed: u64,
         write_run(&mut lines, &generator.finishing(form))?;
         written += 1;
     }
-    while written < count && !lines.coverage.has_all_bits() {
-        let case = RunCase { budget: 1, ..generator.bits() };
-        if adds(&case, &lines.coverage) {
-            write_run(&mut lines, &case)?;
-            written += 1;
-        }
-    }
+    written += write_missing(&mut lines, count - written, Coverage::has_all_bits, || generator.bits())?;
+    written += write_missing(&mut lines, count - written, Coverage::has_all_undefined, || generator.single())?;
     while written < count {
         match generator.next_case() {
             Case::Run(case) => {

@@ -70,7 +70,8 @@ fn agreement_is_found() {
     let comparison = compare(&mirror, 3, 60_000, 2);
     assert_eq!((comparison.defined, comparison.policy), (0, 0));
     assert_eq!(comparison.coverage.holes(), Vec::<String>::new());
-    assert!(comparison.coverage.has_all_bits(), "{}", comparison.coverage);
+    let coverage = comparison.coverage;
+    assert!(coverage.has_all_bits() && coverage.has_all_undefined(), "{coverage}");
 }
 
 #[test]

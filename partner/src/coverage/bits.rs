@@ -1,9 +1,9 @@
 //! Groups of bit tests, scans, double shifts and conditional moves.
 
-use super::Group;
+use super::{masked, Group};
 use crate::arithmetic::bit_place;
 use crate::decode::{Operand, Operation};
-use crate::machine::{Machine, Width, CF, ECX, ZF};
+use crate::machine::{Machine, Width, CF, ZF};
 use crate::run::Seen;
 use crate::step::condition;
 use crate::text::CONDITIONS;
@@ -123,11 +123,8 @@ fn shapes(seen: &Seen) -> Vec<(Kind, Vec<usize>)> {
             vec![(Kind::Scans, vec![kind as usize, width_place(width), index_place(&step.machine, to, width)])]
         }
         (Operation::DoubleShift(kind, to, _, count), Ok(_)) => {
-            let count = match count {
-                Operand::Immediate(value) => value,
-                _ => seen.before.register(ECX, Width::Byte),
-            };
-            vec![(Kind::Shifts, vec![kind as usize, operand_place(&to), count_place(count % 32, width)])]
+            let count = count_place(masked(count, seen.before), width);
+            vec![(Kind::Shifts, vec![kind as usize, operand_place(&to), count])]
         }
         (Operation::Cmov(number, ..), _) => {
             let unmet = usize::from(!condition(seen.before, number));
