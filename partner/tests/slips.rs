@@ -1,23 +1,26 @@
-//! A program that slips in a bit test, scan, double shift or conditional move is found out.
+//! A program that slips in a bit test, scan, double shift or conditional move, or in undefined flags, is found out.
 
 mod common;
 
 use common::{Ended, Program};
 use partner::compare::compare;
 use partner::decode::{BitTest, DoubleShift, Instruction, Operand, Operation, Scan, Shift};
-use partner::machine::{Machine, Width, ECX};
-use partner::step::{condition, execute, fetch};
+use partner::machine::{Machine, Width, ECX, STATUS};
+use partner::step::{condition, execute, fetch, Step, Stop};
 
 /// Puts another operation into the instruction's place.
 type Slip = fn(&Machine, Width, Operation) -> Operation;
 
-/// Steps of the operations that the slip gives.
-fn steps(slip: Slip, mut machine: Machine, code: &[u8], data: &mut [u8], budget: u64) -> Ended {
+/// Gives a finished step's flags another value.
+type FlagSlip = fn(&Machine, &Instruction, &Step) -> u32;
+
+/// Carries out one instruction.
+type CarryOut = dyn Fn(&Machine, &Instruction, &mut [u8]) -> Result<Step, Stop>;
+
+/// Steps of instructions so carried out.
+fn steps(carry_out: &CarryOut, mut machine: Machine, code: &[u8], data: &mut [u8], budget: u64) -> Ended {
     for steps in 0..budget {
-        let stepped = fetch(&machine, code).and_then(|(instruction, _)| {
-            let operation = slip(&machine, instruction.width, instruction.operation);
-            execute(&machine, &Instruction { operation, ..instruction }, data)
-        });
+        let stepped = fetch(&machine, code).and_then(|(instruction, _)| carry_out(&machine, &instruction, data));
         match stepped {
             Ok(step) => machine = step.machine,
             Err(stop) => return (machine, steps, stop.number(), stop.address(machine.eip)),
@@ -26,17 +29,35 @@ fn steps(slip: Slip, mut machine: Machine, code: &[u8], data: &mut [u8], budget:
     (machine, budget, 0, machine.eip)
 }
 
-/// Defined and policy disagreements with a program that slips, in 5,000 cases.
-fn disagreements(slip: Slip) -> (u64, u64) {
-    let program = Program(|machine, code: &[u8], data: &mut [u8], budget| steps(slip, machine, code, data, budget));
+/// Defined and policy disagreements with a program that carries out instructions so, in 5,000 cases.
+fn disagreements(carry_out: &CarryOut) -> (u64, u64) {
+    let program =
+        Program(|machine, code: &[u8], data: &mut [u8], budget| steps(carry_out, machine, code, data, budget));
     let comparison = compare(&program, 3, 5_000, 0);
     (comparison.defined, comparison.policy)
 }
 
 /// The slip is found at least five times.
 fn is_found(slip: Slip) {
-    let found = disagreements(slip).0;
+    let (found, _) = disagreements(&move |machine, instruction, data| {
+        let operation = slip(machine, instruction.width, instruction.operation);
+        execute(machine, &Instruction { operation, ..*instruction }, data)
+    });
     assert!(found >= 5, "{found}");
+}
+
+/// Defined and policy disagreements with a program that slips in flags.
+fn flag_disagreements(slip: FlagSlip) -> (u64, u64) {
+    disagreements(&move |machine, instruction, data| {
+        let mut step = execute(machine, instruction, data)?;
+        step.machine.flags = slip(machine, instruction, &step);
+        Ok(step)
+    })
+}
+
+/// A finished step's flags, the undefined ones as they were before.
+fn kept(machine: &Machine, step: &Step) -> u32 {
+    step.machine.flags | machine.flags & step.flags.undefined
 }
 
 /// A bit test of memory, its unit so many bytes further on.
@@ -47,7 +68,7 @@ fn moved(kind: BitTest, base: Operand, offset: Operand, by: u32) -> Operation {
     }
 }
 
-/// A double shift's masked count.
+/// The masked count of a shift, rotate or double shift.
 fn masked(machine: &Machine, count: Operand) -> u32 {
     match count {
         Operand::Immediate(value) => value % 32,
@@ -57,7 +78,7 @@ fn masked(machine: &Machine, count: Operand) -> u32 {
 
 #[test]
 fn no_slip_agrees() {
-    assert_eq!(disagreements(|_, _, operation| operation), (0, 0));
+    assert_eq!(disagreements(&execute), (0, 0));
 }
 
 #[test]
@@ -139,4 +160,30 @@ fn a_double_shift_by_the_width_that_does_nothing_is_found() {
         }
         _ => operation,
     });
+}
+
+#[test]
+fn undefined_flags_that_are_kept_are_found_as_policy() {
+    let (_, found) = flag_disagreements(|machine, _, step| kept(machine, step));
+    assert!(found >= 500, "{found}");
+}
+
+#[test]
+fn flags_kept_by_a_double_shift_over_the_width_are_found_as_policy() {
+    let (_, found) = flag_disagreements(|machine, instruction, step| match instruction.operation {
+        Operation::DoubleShift(.., count) if masked(machine, count) > instruction.width.bits() => kept(machine, step),
+        _ => step.machine.flags,
+    });
+    assert!(found >= 5, "{found}");
+}
+
+#[test]
+fn flags_cleared_by_a_count_of_0_are_found() {
+    let (found, _) = flag_disagreements(|machine, instruction, step| match instruction.operation {
+        Operation::Shift(_, _, count) | Operation::DoubleShift(.., count) if masked(machine, count) == 0 => {
+            step.machine.flags & !STATUS
+        }
+        _ => step.machine.flags,
+    });
+    assert!(found >= 5, "{found}");
 }
