@@ -52,7 +52,7 @@ unfolding All Holds Gives cases-1-to-12 ones codeBase
     Sums.valueOf Sums.carries Sums.adjusts Sums.overflows Sums.flagsOf
     Binary.sumFlags Binary.binaryValue Binary.binaryFlags
     Single.singleValue Single.singleFlags
-    Values.masked Values.turnedRight Values.turnedLeft Values.shifted Values.shiftValue
+    Values.masked Values.turnedRight Values.turnedLeft Values.withCarry Values.throughLeft Values.shifted Values.shiftValue
     Changes.carryAfter Changes.overflowOnce Changes.overflowAfter Changes.rotateFlags Changes.changed Changes.flagsAfter Changes.shiftFlags
     Divide.joined Divide.divided Divide.dividedUnsigned Divide.dividedSigned Divide.unsignedDivision Divide.signedDivision
     Registers.register Registers.withRegister Registers.withEip Registers.withFlags Registers.holder Registers.lowest Registers.bitsFrom Registers.part Registers.replaced Registers.withPart
@@ -74,7 +74,7 @@ unfolding All Holds Gives cases-1-to-12 ones codeBase
     Effects.addressBy Effects.readsBy Effects.effectBy
     Steps.home Steps.inside Steps.committed Steps.finished Steps.performed Steps.operandAddress Steps.planned Steps.executed Steps.stepOf Steps.stored Steps.loaded
     Runs.onMoved Runs.runFrom Runs.refusal Runs.opened Runs.closed Runs.taken Runs.runOf
-runs-hold = (refl, (refl, (refl, (refl, (refl, (refl, (refl, (keeps-machine, (refl, (refl, (refl, (refl, (refl, (refl, (refl, tt)))))))))))))))
+runs-hold = (refl, (refl, (refl, (refl, (refl, (refl, (refl, (keeps-machine, (refl, (refl, (refl, (refl, (refl, (refl, (refl, (refl, tt))))))))))))))))
 
 -- two tables that hold are one that holds
 pub both : (cases more : List Case) → All cases → All more → All (cases ++ more)

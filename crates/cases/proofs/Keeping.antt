@@ -1,5 +1,6 @@
--- Case 8 of document 01 on any machine: C0 D0 09 changes only EIP. Assumes nothing.
+-- Case 8 of document 01 on any machine with OF clear: C0 D0 09 changes only EIP. Assumes nothing.
 use mathlib.Core.Path.{_≡_}
+use mathlib.Core.Bool.{false}
 use mathlib.Core.List.{[], _∷_}
 use Prim.Native.Nat.{ℕ, _^_, _<_}
 use native.Mathlib.Omega.{arith}
@@ -31,10 +32,15 @@ use Rattle.run.specs.Steps as Steps
 use Rattle.run.specs.Runs as Runs
 use Rattle.cases.specs.Lines.{Gives, Keeps}
 
--- RCL of AL by 9 keeps AL and the flags
-kept : (al : ℕ) (f : Flags) → al < 2 ^ 8 → (Values.shiftValue Rcl Byte al 9 (f .cf) ≡ al) × (Changes.shiftFlags Rcl Byte al 9 f ≡ f)
+-- RCL of AL by 9 keeps AL, and the flags where OF is clear
+kept : (al : ℕ) (f : Flags) → al < 2 ^ 8 → f .of ≡ false → (Values.shiftValue Rcl Byte al 9 (f .cf) ≡ al) × (Changes.shiftFlags Rcl Byte al 9 f ≡ f)
 unfolding Shifts.All Shifts.Holds Shifts.cases
 kept = Shifts.all-hold .1 .0
+
+-- bit 11 of the flags word is OF
+clear : (word : ℕ) → Numbers.bitAt 11 word ≡ false → (Word.flagsOf word) .of ≡ false
+unfolding Word.flagsOf
+clear word o = o
 
 -- AL put back into EAX
 put-back : (eax : ℕ) → eax < 2 ^ 32 → Registers.replaced 0 8 eax (Registers.bitsFrom 0 8 eax) ≡ eax
@@ -46,7 +52,7 @@ byte : (eax : ℕ) → Registers.bitsFrom 0 8 eax < 2 ^ 8
 unfolding Registers.bitsFrom
 byte eax = omega arith
 
--- C0 D0 09 on any machine
+-- C0 D0 09 on any such machine
 pub keeps-machine : Keeps (0xC0 ∷ 0xD0 ∷ 0x09 ∷ [])
 unfolding Keeps Gives
     Sizes.bits Sizes.modulus Numbers.residue Numbers.rest
@@ -62,6 +68,6 @@ unfolding Keeps Gives
     codeBase
     Steps.home Steps.inside Steps.committed Steps.finished Steps.performed Steps.operandAddress Steps.planned Steps.executed Steps.stepOf
     Runs.onMoved Runs.runFrom Runs.refusal Runs.opened Runs.closed Runs.taken Runs.runOf
-keeps-machine eax others word h p =
-    let k = kept (Registers.bitsFrom 0 8 eax) (Word.flagsOf word) (byte eax) in
+keeps-machine eax others word h p o =
+    let k = kept (Registers.bitsFrom 0 8 eax) (Word.flagsOf word) (byte eax) (clear word o) in
     rw (p, k .0, k .1, packed word p, put-back eax h)

@@ -1,9 +1,10 @@
 -- A line of a table of cases, and when it holds of the written rules. Assumes nothing.
 use mathlib.Core.Path.{_≡_}
-use mathlib.Core.Bool.{true}
+use mathlib.Core.Bool.{true, false}
 use mathlib.Core.List.{List, [], _∷_}
 use Prim.Native.Nat.{ℕ, _+_, _^_, _<_}
 use lib.ListN.{length}
+use Rattle.width.specs.Numbers.{bitAt}
 use Rattle.flags.specs.Word.{passes}
 use Rattle.grammar.specs.Cases as Bytes
 use Rattle.blockcheck.specs.Blocks.{codeBase}
@@ -57,17 +58,18 @@ step code given after = ends code given [] 1 after []
 abbrev pub fault : List ℕ → Lent → Run
 fault code given = stops code given [] 1 given [] 0 7 (given .eip)
 
--- the code's first step changes only EIP, whatever the registers and the flags are
+-- the code's first step changes only EIP, whatever the registers and the flags are, where OF is clear
 unfoldable pub Keeps : List ℕ → Type 0
 Keeps code =
     (eax : ℕ) (others : List ℕ) (word : ℕ)
     → eax < 2 ^ 32
     → passes word ≡ true
+    → bitAt 11 word ≡ false
     → Gives
     (step code (record { regs = eax ∷ others; eip = codeBase; word = word })
     (record { regs = eax ∷ others; eip = codeBase + length code; word = word }))
 
--- a line: a run, code that changes only EIP, what some bytes are, or what the block check answers
+-- a line: a run, code that with OF clear changes only EIP, what some bytes are, or what the block check answers
 pub data Case : Type 0 where
   run : Run → Case
   keeps : List ℕ → Case

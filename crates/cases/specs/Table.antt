@@ -65,8 +65,9 @@ cases-1-to-12 =
     ∷ run (step (0xF7 ∷ 0xF9 ∷ []) (at 0 0xFFFF_FFF9 2 0xFFFF_FFFF 0x0002) (at 2 0xFFFF_FFFD 2 0xFFFF_FFFF 0x0002))
     -- 7. D0 C0, AL = 80h: AL 01h, flags 0803h
     ∷ run (step (0xD0 ∷ 0xC0 ∷ []) (at 0 0x80 0 0 0x0002) (at 2 0x01 0 0 0x0803))
-    -- 8. C0 D0 09: only EIP changes. C0 C0 08, AL = 01h: AL 01h, flags 0003h
+    -- 8. C0 D0 09, OF clear: only EIP changes. OF set: OF is cleared besides (M-101). C0 C0 08, AL = 01h: AL 01h, flags 0003h
     ∷ keeps (0xC0 ∷ 0xD0 ∷ 0x09 ∷ [])
+    ∷ run (step (0xC0 ∷ 0xD0 ∷ 0x09 ∷ []) (at 0 0x81 0 0 0x0CD7) (at 3 0x81 0 0 0x04D7))
     ∷ run (step (0xC0 ∷ 0xC0 ∷ 0x08 ∷ []) (at 0 0x01 0 0 0x0002) (at 3 0x01 0 0 0x0003))
     -- 9. 8D 04 8D 10 00 00 00, ECX = C0000001h: EAX 14h
     ∷ run

@@ -1,5 +1,5 @@
 -- The policy for an undefined flag, and the flags that a result alone decides. Assumes nothing.
-use mathlib.Core.Bool.{Bool}
+use mathlib.Core.Bool.{Bool, false}
 use Prim.Native.Nat.{ℕ, _%_, _^_}
 use lib.Dec.{eqb}
 use lib.Count.{ones}
@@ -7,9 +7,9 @@ use Rattle.width.specs.declared.Size.{Size}
 use Rattle.width.specs.Numbers.{negative}
 use Rattle.flags.specs.declared.Flags.{Flags}
 
--- a flag that 003 leaves undefined keeps its old value
+-- a flag that 003 leaves undefined is cleared, whatever it was
 unfoldable pub undefinedFlag : Bool → Bool
-undefinedFlag old = old
+undefinedFlag old = false
 
 -- the status flags all undefined, DF kept
 unfoldable pub allUndefined : Flags → Flags

@@ -68,11 +68,11 @@ pub fn with_ah(n: u32, f: Flags) -> Flags
     r
 }
 
-// A flag that 003 leaves undefined, from its old value.
+// A flag that 003 leaves undefined, where old is what it was.
 pub fn undefined(old: bool) -> bool
     ensures { λ r. ⌜ r ≡ undefinedFlag old ⌝ }
 {
-    old
+    false
 }
 
 // The status flags all undefined, DF kept.

@@ -1,5 +1,5 @@
 -- Document 01's cases 7 and 8: what they say of value and flags, from the specifications. Assumes nothing.
-use mathlib.Core.Path.{_≡_, refl}
+use mathlib.Core.Path.{_≡_, refl, sym}
 use mathlib.Core.Bool.{Bool, true, false}
 use mathlib.Core.List.{List, [], _∷_}
 use Prim.Native.Nat.{ℕ, _+_, _/_, _%_, _^_, _<_}
@@ -30,7 +30,7 @@ use Rattle.shift.proofs.Turns.{turned-round}
 pub data ShiftCase : Type 0 where
   -- from this AL and flags word to this AL and flags word
   gives : (op : Shift) (count al word al-after word-after : ℕ) → ShiftCase
-  -- AL and the flags stay, whatever they are
+  -- AL and the flags stay, whatever they are, where OF is clear
   keeps : (op : Shift) (count : ℕ) → ShiftCase
 
 -- the specifications say what the case says
@@ -41,6 +41,7 @@ Holds (gives op count al word al-after word-after) =
 Holds (keeps op count) =
     (al : ℕ) (f : Flags)
     → al < 2 ^ 8
+    → f .of ≡ false
     → (shiftValue op Byte al count (f .cf) ≡ al) × (shiftFlags op Byte al count f ≡ f)
 
 -- each case of a table
@@ -62,10 +63,10 @@ nine false al h =
     rw (turned-round 9 (0 + al) (omega arith), zero-add)
     (omega arith, ne-eqb (al / 2 ^ 8 % 2) 1 (λ (e : al / 2 ^ 8 % 2 ≡ 1). omega arith))
 
--- C0 D0 09, for every AL and all flags
+-- C0 D0 09, for every AL and all flags with OF clear
 stays : Holds (keeps Rcl 9)
 unfolding Holds bits modulus residue rest undefinedFlag masked shifted shiftValue carryAfter overflowAfter rotateFlags changed flagsAfter shiftFlags
-stays al f h = let n = nine (f .cf) al h in rw (mod-eq-of-lt h) (n .0, rw (n .1))
+stays al f h o = let n = nine (f .cf) al h in rw (mod-eq-of-lt h) (n .0, rw (n .1, sym o))
 
 -- each case of the table holds
 pub all-hold : All cases
