@@ -2,3 +2,4 @@
 pub mod Sums
 pub mod Sentences
 pub mod Cases
+pub mod Regardless

@@ -2,3 +2,4 @@
 pub mod Sums
 pub mod Binary
 pub mod Single
+pub mod Undefined

@@ -7,3 +7,4 @@ pub mod Ones
 pub mod Moved
 pub mod Sources
 pub mod Cases
+pub mod Regardless

@@ -3,3 +3,4 @@ pub mod Tests
 pub mod Scans
 pub mod Doubles
 pub mod Parts
+pub mod Undefined

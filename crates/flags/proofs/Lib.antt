@@ -1,2 +1,3 @@
 -- The laws of `flags`. Assumes nothing.
 pub mod RoundTrips
+pub mod Regardless

@@ -2,3 +2,4 @@
 pub mod Word
 pub mod Conditions
 pub mod Results
+pub mod Undefined

@@ -3,3 +3,4 @@ pub mod Magnitudes
 pub mod Squares
 pub mod Extension
 pub mod Cases
+pub mod Regardless

@@ -2,3 +2,4 @@
 pub mod Magnitude
 pub mod Multiply
 pub mod Divide
+pub mod Undefined

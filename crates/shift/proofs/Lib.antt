@@ -3,3 +3,4 @@ pub mod Turns
 pub mod Signs
 pub mod Cases
 pub mod Loops
+pub mod Regardless

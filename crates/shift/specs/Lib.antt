@@ -2,3 +2,4 @@
 pub mod Values
 pub mod Changes
 pub mod Parts
+pub mod Undefined

@@ -1,0 +1,2 @@
+-- The definitions of `undefined`. Assumes nothing.
+pub mod Undefined
