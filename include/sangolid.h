@@ -39,6 +39,8 @@ extern "C" {
  * With 1 to 7 all steps before the last stand, and the one that stopped has changed nothing. With 10 to 13 no step was
  * taken: the first ten words and the data stay as they are, steps and address are 0. With 90 nothing is changed.
  *
+ * A flag that Intel's 1999 reference leaves undefined after an instruction comes out clear, whatever it was.
+ *
  * A pause changes nothing: a call with budget n and a further one with m leave and return what one with n + m does, and
  * their steps add up to its steps, where m is at least 1 and n + m at most 1,000,000.
  */
