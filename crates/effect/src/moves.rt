@@ -111,7 +111,7 @@ fn ah_stored(m: Machine, p: Plan) -> Effect
 }
 
 // SETcc: 1 if the condition is met, else 0.
-fn told(n: u32, f: Flags) -> u32
+fn condition_bit(n: u32, f: Flags) -> u32
     ensures { λ r. ⌜ r ≡ bit (meets n f) ⌝ }
 {
     width::bit(flags::meets(n, f)) as u32
@@ -148,7 +148,7 @@ pub fn move_effect(op: Move, m: Machine, p: Plan, a: u32, r: u32) -> Effect
         Move::Convert => return converted(m, p),
         Move::Spread => return spread(m, p),
         Move::Bswap => width::reversed(words::value(d, m, r, w)),
-        Move::Set(n) => told(n, f),
+        Move::Set(n) => condition_bit(n, f),
         Move::Lahf => return ah_loaded(m, p),
         Move::Sahf => return ah_stored(m, p),
         Move::MovIf(n) => chosen(m, p, r, n),

@@ -1,4 +1,4 @@
-// What document 01 says of each opcode, in its words.
+// What documents 01 and 02 say of each opcode, in their words.
 
 // The ModR/M byte: none, or which reg fields and operands it may have.
 pub enum ModRM {
@@ -49,7 +49,7 @@ pub enum Repeat {
     F3,
 }
 
-// All that document 01 says of an opcode.
+// All that documents 01 and 02 say of an opcode.
 pub struct Rule {
     pub modrm: ModRM,
     pub immediate: Immediate,

@@ -1,4 +1,4 @@
-// The table of opcodes: what follows each, and which prefixes it takes, in document 01's words and order.
+// The table of opcodes: what follows each, and which prefixes it takes, in the words and order of documents 01 and 02.
 use crate::rule::Entry;
 use crate::rule::Immediate;
 use crate::rule::ModRM;

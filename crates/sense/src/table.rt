@@ -1,4 +1,4 @@
-// What each opcode means, in document 01's order.
+// What each opcode means, in the order of documents 01 and 02.
 use crate::Kind;
 use crate::Place;
 use crate::Sense;
