@@ -11,8 +11,8 @@ use Rattle.width.specs.Sizes.{bits}
 use Rattle.width.specs.Numbers.{rest}
 use Rattle.flags.specs.declared.Flags.{Flags}
 use Rattle.flags.specs.Results.{undefinedFlag, allUndefined, resulting}
-use Rattle.flags.specs.Undefined.{AF, OF, statusFlags, cleared, without, Regardless, Clears}
-use Rattle.flags.proofs.Regardless.{Ignores, regardless, ignores-both, ignores-cond, ignores-either, clears-both, clears-cond, clears-unless, all-ignored, all-clears}
+use Rattle.flags.specs.Undefined.{AF, OF, statusFlags, cleared, without, Settles}
+use Rattle.flags.proofs.Regardless.{Aside, settles, none-aside, both-aside, unless-aside, either-aside, all-aside}
 use Rattle.shift.specs.Values.{masked}
 use Rattle.shift.specs.Undefined.{overflowUndefined}
 use Rattle.bits.specs.declared.DoubleShift.{DoubleShift}
@@ -21,67 +21,35 @@ use Rattle.bits.specs.Scans.{scanFlags}
 use Rattle.bits.specs.Doubles.{overflowAfter, flagsAfter, doubleFlags}
 use Rattle.bits.specs.Undefined.{testUndefined, scanUndefined, doubleUndefined}
 
-test-ignores : (w : Size) (v offset : ℕ) → Ignores testUndefined (testFlags w v offset)
-unfolding undefinedFlag cleared without Ignores testFlags testUndefined
-test-ignores w v offset f = refl
-
 -- bit tests
-pub test-regardless : (w : Size) (v offset : ℕ) → Regardless testUndefined (testFlags w v offset)
-test-regardless w v offset = regardless testUndefined (testFlags w v offset) (test-ignores w v offset)
-
-pub test-clears : (w : Size) (v offset : ℕ) → Clears testUndefined (testFlags w v offset)
-unfolding undefinedFlag cleared without Clears testFlags testUndefined
-test-clears w v offset f = refl
-
-scan-ignores : (v : ℕ) → Ignores scanUndefined (scanFlags v)
-unfolding undefinedFlag cleared without Ignores scanFlags scanUndefined
-scan-ignores v f = refl
+pub test-settles : (w : Size) (v offset : ℕ) → Settles testUndefined (testFlags w v offset)
+unfolding undefinedFlag cleared without Aside testFlags testUndefined
+test-settles w v offset = settles testUndefined (testFlags w v offset) (λ f. (refl, refl))
 
 -- bit scans
-pub scan-regardless : (v : ℕ) → Regardless scanUndefined (scanFlags v)
-scan-regardless v = regardless scanUndefined (scanFlags v) (scan-ignores v)
+pub scan-settles : (v : ℕ) → Settles scanUndefined (scanFlags v)
+unfolding undefinedFlag cleared without Aside scanFlags scanUndefined
+scan-settles v = settles scanUndefined (scanFlags v) (λ f. (refl, refl))
 
-pub scan-clears : (v : ℕ) → Clears scanUndefined (scanFlags v)
-unfolding undefinedFlag cleared without Clears scanFlags scanUndefined
-scan-clears v f = refl
-
--- a double shift by 1 to the width looks at no flag before
-after-ignores : (op : DoubleShift) (w : Size) (d s k : ℕ) → Ignores (overflowUndefined k ++ AF ∷ []) (flagsAfter op w d s k)
-unfolding undefinedFlag resulting cleared without Ignores overflowUndefined overflowAfter flagsAfter
-after-ignores op w d s k =
-    ignores-both (overflowUndefined k) (AF ∷ []) (flagsAfter op w d s k)
-    (ignores-either (eqb k 1) [] (OF ∷ []) (flagsAfter op w d s k) (λ f. refl) (λ f. refl))
-    (λ f. refl)
+-- a double shift by 1 to the width
+after-aside : (op : DoubleShift) (w : Size) (d s k : ℕ) → Aside (overflowUndefined k ++ AF ∷ []) (flagsAfter op w d s k)
+unfolding undefinedFlag resulting cleared without Aside overflowUndefined overflowAfter flagsAfter
+after-aside op w d s k =
+    both-aside (overflowUndefined k) (AF ∷ []) (flagsAfter op w d s k)
+    (unless-aside (eqb k 1) (OF ∷ []) (flagsAfter op w d s k) (λ e f. (refl, rw e)))
+    (λ f. (refl, refl))
 
 -- double shifts
-pub double-regardless : (op : DoubleShift) (w : Size) (d s count : ℕ) → Regardless (doubleUndefined w count) (doubleFlags op w d s count)
-unfolding without Ignores doubleFlags doubleUndefined
-double-regardless op w d s count =
-    regardless (doubleUndefined w count) (doubleFlags op w d s count)
-    (ignores-cond (eqb (masked count) 0) [] _ (λ f. f) _ (λ f. refl)
-    (ignores-cond (leb (masked count) (bits w)) (overflowUndefined (masked count) ++ AF ∷ []) statusFlags
+pub double-settles : (op : DoubleShift) (w : Size) (d s count : ℕ) → Settles (doubleUndefined w count) (doubleFlags op w d s count)
+unfolding doubleFlags doubleUndefined
+double-settles op w d s count =
+    settles (doubleUndefined w count) (doubleFlags op w d s count)
+    (either-aside (eqb (masked count) 0) [] _ (λ f. f) _ (none-aside (λ f. f))
+    (either-aside (leb (masked count) (bits w)) (overflowUndefined (masked count) ++ AF ∷ []) statusFlags
     (flagsAfter op w (rest w (pos d)) (rest w (pos s)) (masked count))
     allUndefined
-    (after-ignores op w (rest w (pos d)) (rest w (pos s)) (masked count))
-    all-ignored))
-
--- after it AF is clear, and OF unless the count is 1
-after-clear : (op : DoubleShift) (w : Size) (d s k : ℕ) → Clears (overflowUndefined k ++ AF ∷ []) (flagsAfter op w d s k)
-unfolding undefinedFlag resulting cleared without Clears overflowUndefined overflowAfter flagsAfter
-after-clear op w d s k =
-    clears-both (overflowUndefined k) (AF ∷ []) (flagsAfter op w d s k)
-    (λ f. clears-unless (eqb k 1) (OF ∷ []) (flagsAfter op w d s k f) (λ e. rw e))
-    (λ f. refl)
-
-pub double-clears : (op : DoubleShift) (w : Size) (d s count : ℕ) → Clears (doubleUndefined w count) (doubleFlags op w d s count)
-unfolding without Clears doubleFlags doubleUndefined
-double-clears op w d s count =
-    clears-cond (eqb (masked count) 0) [] _ (λ f. f) _ (λ f. refl)
-    (clears-cond (leb (masked count) (bits w)) (overflowUndefined (masked count) ++ AF ∷ []) statusFlags
-    (flagsAfter op w (rest w (pos d)) (rest w (pos s)) (masked count))
-    allUndefined
-    (after-clear op w (rest w (pos d)) (rest w (pos s)) (masked count))
-    all-clears)
+    (after-aside op w (rest w (pos d)) (rest w (pos s)) (masked count))
+    all-aside))
 
 -- count 0 changes no flag
 pub none-by-0 : (op : DoubleShift) (w : Size) (d s count : ℕ) (f : Flags) → masked count ≡ 0 → doubleFlags op w d s count f ≡ f

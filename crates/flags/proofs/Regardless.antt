@@ -1,19 +1,29 @@
--- What is worked out from flags and does not depend on some of them: its laws, and the policy for all six. Assumes nothing.
+-- What does not depend on some flags, and settles them: how it is shown, and that the policy settles all six. Assumes nothing.
 use mathlib.Core.Path.{_≡_, refl, sym, ap, _∙_}
 use mathlib.Core.Bool.{Bool, true, false, cond}
 use mathlib.Core.List.{List, [], _∷_, _++_}
 use Rattle.flags.specs.declared.Flags.{Flags}
 use Rattle.flags.specs.Results.{undefinedFlag, allUndefined}
-use Rattle.flags.specs.Undefined.{Flag, statusFlags, cleared, without, DifferOnlyIn, Regardless, Clears}
+use Rattle.flags.specs.Undefined.{Flag, statusFlags, cleared, without, DifferOnlyIn, Regardless, Settles}
 
--- it comes out the same with these flags cleared before
-unfoldable pub Ignores : {A : Type 0} → List Flag → (Flags → A) → Type 0
-Ignores us out = (f : Flags) → out (without us f) ≡ out f
-
--- and so does not depend on them
-pub regardless : {A : Type 0} (us : List Flag) (out : Flags → A) → Ignores us out → Regardless us out
-unfolding Ignores DifferOnlyIn Regardless
+-- what comes out the same with these flags cleared before does not depend on them
+pub regardless : {A : Type 0} (us : List Flag) (out : Flags → A) → ((f : Flags) → out (without us f) ≡ out f) → Regardless us out
+unfolding DifferOnlyIn Regardless
 regardless us out same f g h = sym (same f) ∙ ap out h ∙ same g
+
+-- it comes out the same with these flags cleared, before or after
+unfoldable pub Aside : List Flag → (Flags → Flags) → Type 0
+Aside us after = (f : Flags) → (after (without us f) ≡ after f) × (without us (after f) ≡ after f)
+
+-- and so settles them
+pub settles : (us : List Flag) (after : Flags → Flags) → Aside us after → Settles us after
+unfolding Aside
+settles us after h = record { regardless = regardless us after (λ f. h f .0); clear = λ f. h f .1 }
+
+-- no flag
+pub none-aside : (after : Flags → Flags) → Aside [] after
+unfolding without Aside
+none-aside after f = (refl, refl)
 
 -- clearing those of two lists is clearing those of one, and then those of the other
 joined : (us vs : List Flag) (f : Flags) → without (us ++ vs) f ≡ without vs (without us f)
@@ -21,48 +31,27 @@ unfolding without
 joined [] vs f = refl
 joined (x ∷ us) vs f = joined us vs (cleared x f)
 
--- those of two lists are ignored
-pub ignores-both : {A : Type 0} (us vs : List Flag) (out : Flags → A) → Ignores us out → Ignores vs out → Ignores (us ++ vs) out
-unfolding Ignores
-ignores-both us vs out p q f = rw (joined us vs f) (q (without us f) ∙ p f)
+-- those of two lists
+pub both-aside : (us vs : List Flag) (after : Flags → Flags) → Aside us after → Aside vs after → Aside (us ++ vs) after
+unfolding Aside
+both-aside us vs after p q f =
+    (ap after (joined us vs f) ∙ q (without us f) .0 ∙ p f .0, joined us vs (after f) ∙ ap (without vs) (p f .1) ∙ q f .1)
 
--- of two ways, each with its list
-pub ignores-cond : (b : Bool) (us vs : List Flag) (after other : Flags → Flags) → Ignores us after → Ignores vs other
-    → Ignores (cond b us vs) (λ f. cond b (after f) (other f))
-ignores-cond true us vs after other p q = p
-ignores-cond false us vs after other p q = q
+-- those of a list, unless a test holds
+pub unless-aside : (b : Bool) (us : List Flag) (after : Flags → Flags) → (b ≡ false → Aside us after) → Aside (cond b [] us) after
+unless-aside true us after h = none-aside after
+unless-aside false us after h = h refl
 
--- one list or another is ignored, whatever decides
-pub ignores-either : {A : Type 0} (b : Bool) (us vs : List Flag) (out : Flags → A) → Ignores us out → Ignores vs out
-    → Ignores (cond b us vs) out
-ignores-either true us vs out p q = p
-ignores-either false us vs out p q = q
+-- one way or another, each with its list
+pub either-aside : (b : Bool) (us vs : List Flag) (after other : Flags → Flags) → Aside us after → Aside vs other
+    → Aside (cond b us vs) (λ f. cond b (after f) (other f))
+either-aside true us vs after other p q = p
+either-aside false us vs after other p q = q
 
--- those of two lists are clear
-pub clears-both : (us vs : List Flag) (after : Flags → Flags) → Clears us after → Clears vs after → Clears (us ++ vs) after
-unfolding Clears
-clears-both us vs after p q f = rw (joined us vs (after f), p f) (q f)
+-- all six by the policy
+pub all-aside : Aside statusFlags allUndefined
+unfolding undefinedFlag allUndefined statusFlags cleared without Aside
+all-aside f = (refl, refl)
 
--- of two ways, each with its list
-pub clears-cond : (b : Bool) (us vs : List Flag) (after other : Flags → Flags) → Clears us after → Clears vs other
-    → Clears (cond b us vs) (λ f. cond b (after f) (other f))
-clears-cond true us vs after other p q = p
-clears-cond false us vs after other p q = q
-
--- those of a list are clear, unless they need not be
-pub clears-unless : (b : Bool) (us : List Flag) (f : Flags) → (b ≡ false → without us f ≡ f) → without (cond b [] us) f ≡ f
-unfolding without
-clears-unless true us f h = refl
-clears-unless false us f h = h refl
-
--- all six
-pub all-ignored : Ignores statusFlags allUndefined
-unfolding undefinedFlag allUndefined statusFlags cleared without Ignores
-all-ignored f = refl
-
-pub all-regardless : Regardless statusFlags allUndefined
-all-regardless = regardless statusFlags allUndefined all-ignored
-
-pub all-clears : Clears statusFlags allUndefined
-unfolding undefinedFlag allUndefined statusFlags cleared without Clears
-all-clears f = refl
+pub all-settle : Settles statusFlags allUndefined
+all-settle = settles statusFlags allUndefined all-aside

@@ -34,6 +34,7 @@ DifferOnlyIn us f g = without us f ≡ without us g
 unfoldable pub Regardless : {A : Type 0} → List Flag → (Flags → A) → Type 0
 Regardless us out = (f g : Flags) → DifferOnlyIn us f g → out f ≡ out g
 
--- the flags that are worked out from flags have those of a list clear
-unfoldable pub Clears : List Flag → (Flags → Flags) → Type 0
-Clears us after = (f : Flags) → without us (after f) ≡ after f
+-- what an operation makes of the flags, where it leaves those of a list undefined: it does not depend on them, and they come out clear
+pub record Settles (us : List Flag) (after : Flags → Flags) : Type 0 where
+  pub regardless : Regardless us after
+  pub clear : (f : Flags) → without us (after f) ≡ after f

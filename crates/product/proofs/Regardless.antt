@@ -2,20 +2,11 @@
 use mathlib.Core.Path.{refl}
 use mathlib.Core.Bool.{Bool}
 use Rattle.flags.specs.Results.{undefinedFlag}
-use Rattle.flags.specs.Undefined.{cleared, without, Regardless, Clears}
-use Rattle.flags.proofs.Regardless.{Ignores, regardless}
+use Rattle.flags.specs.Undefined.{cleared, without, Settles}
+use Rattle.flags.proofs.Regardless.{Aside, settles}
 use Rattle.product.specs.Multiply.{productFlags}
 use Rattle.product.specs.Undefined.{productUndefined}
 
-flags-ignore : (spills : Bool) → Ignores productUndefined (productFlags spills)
-unfolding undefinedFlag cleared without Ignores productFlags productUndefined
-flags-ignore spills f = refl
-
--- the flags
-pub flags-regardless : (spills : Bool) → Regardless productUndefined (productFlags spills)
-flags-regardless spills = regardless productUndefined _ (flags-ignore spills)
-
--- those left undefined
-pub flags-clear : (spills : Bool) → Clears productUndefined (productFlags spills)
-unfolding undefinedFlag cleared without Clears productFlags productUndefined
-flags-clear spills f = refl
+pub product-settles : (spills : Bool) → Settles productUndefined (productFlags spills)
+unfolding undefinedFlag cleared without Aside productFlags productUndefined
+product-settles spills = settles productUndefined (productFlags spills) (λ f. (refl, refl))

@@ -1,12 +1,12 @@
--- What an operation that computes comes to does not depend on the flags that 003 leaves undefined after it, and these come out clear. Assumes nothing.
+-- What an operation that computes comes to settles the flags that 003 leaves undefined after it. Assumes nothing.
 use mathlib.Core.Path.{_≡_, refl}
 use mathlib.Core.List.{List}
 use Prim.Native.Nat.{ℕ}
 use Rattle.width.specs.declared.Size.{Size}
 use Rattle.width.specs.declared.Size.the-variants.{Byte}
 use Rattle.flags.specs.declared.Flags.{Flags}
-use Rattle.flags.specs.Undefined.{Flag, without, DifferOnlyIn, Regardless, Clears}
-use Rattle.flags.proofs.Regardless.{all-regardless, all-clears}
+use Rattle.flags.specs.Undefined.{Flag, without, DifferOnlyIn, Regardless}
+use Rattle.flags.proofs.Regardless.{all-settle}
 use Rattle.arith.specs.declared.Binary.{Binary}
 use Rattle.arith.specs.declared.Binary.the-variants.{And}
 use Rattle.arith.specs.Undefined.{binaryUndefined}
@@ -44,67 +44,85 @@ use Rattle.undefined.proofs.Unflagged.{value-same, part-same, settled-s
 module _ (w : Size) (a b : ℕ) (f g : Flags) where
   binary-same : (op : Binary) → DifferOnlyIn (binaryUndefined op) f g → Effects.binary op w a b g ≡ Effects.binary op w a b f
   unfolding Regardless Effects.binary
-  binary-same op h = rw (Arith.flags-regardless op w a b f g h, Arith.value-regardless op w a b f g h)
+  binary-same op h = rw (Arith.binary-settles op w a b .regardless f g h, Arith.value-regardless op w a b f g h)
 
   test-same : DifferOnlyIn (binaryUndefined And) f g → Effects.test w a b g ≡ Effects.test w a b f
   unfolding Regardless Effects.test
-  test-same h = rw (Arith.flags-regardless And w a b f g h)
+  test-same h = rw (Arith.binary-settles And w a b .regardless f g h)
 
   shift-same : (op : Shift) → DifferOnlyIn (shiftUndefined op w b) f g → Effects.shift op w a b g ≡ Effects.shift op w a b f
   unfolding Regardless Effects.shift
-  shift-same op h = rw (Shifts.flags-regardless op w a b f g h, Shifts.value-regardless op w a b f g h)
+  shift-same op h = rw (Shifts.shift-settles op w a b .regardless f g h, Shifts.value-regardless op w a b f g h)
 
   product-same : DifferOnlyIn productUndefined f g → Effects.multipliedLow w a b g ≡ Effects.multipliedLow w a b f
   unfolding Regardless Effects.multipliedLow
-  product-same h = rw (Products.flags-regardless _ f g h)
+  product-same h = rw (Products.product-settles _ .regardless f g h)
 
   bit-same : (op : BitTest) → DifferOnlyIn testUndefined f g → bitTested op w a b g ≡ bitTested op w a b f
   unfolding Regardless bitTested
-  bit-same op h = rw (Bits.test-regardless w a b f g h)
+  bit-same op h = rw (Bits.test-settles w a b .regardless f g h)
 
   bits-same : (op : Bits) (count : ℕ) → DifferOnlyIn (bitsUndefined op w count) f g → bitsComputed op w a b count g ≡ bitsComputed op w a b count f
   unfolding Regardless bitsUndefined scanned doubleShifted bitsComputed
   bits-same (Bits.Test op) count h = bit-same op h
-  bits-same (Bits.Scan op) count h = rw (Bits.scan-regardless b f g h)
-  bits-same (Bits.Double op) count h = rw (Bits.double-regardless op w a b count f g h)
+  bits-same (Bits.Scan op) count h = rw (Bits.scan-settles b .regardless f g h)
+  bits-same (Bits.Double op) count h = rw (Bits.double-settles op w a b count .regardless f g h)
 
--- what an effect comes to looks at the machine before for its place alone
-commit-same : (o : Outcome) (e : Effect) (m : Machine) (g : Flags) (d : List ℕ) → committed o e (withFlags m g) d ≡ committed o e m d
-unfolding withFlags committed
-commit-same Becomes e m g d = refl
-commit-same Writes e m g d = refl
-commit-same Faults e m g d = refl
+  bits-clear : (op : Bits) (count : ℕ) → without (bitsUndefined op w count) ((bitsComputed op w a b count f) .flags) ≡ (bitsComputed op w a b count f) .flags
+  unfolding bitsUndefined bitTested scanned doubleShifted bitsComputed
+  bits-clear (Bits.Test op) count = Bits.test-settles w a b .clear f
+  bits-clear (Bits.Scan op) count = Bits.scan-settles b .clear f
+  bits-clear (Bits.Double op) count = Bits.double-settles op w a b count .clear f
+
+-- two steps come to the same, with the flags of a list clear
+pub data Settled (us : List Flag) : Moved → Moved → Type 0 where
+  moves : {m : Machine} {d : List ℕ} → without us (m .flags) ≡ m .flags → Settled us (next m d) (next m d)
+  stops : {n a : ℕ} → Settled us (stop n a) (stop n a)
 
 -- what an operation that computes comes to
 unfoldable pub comesTo : Arithmetic → Machine → Plan → ℕ → List ℕ → ℕ → Moved
 comesTo op m p a d r = committed ((arithmeticEffect op m p a r) .outcome) (arithmeticEffect op m p a r) m d
 
 module _ (m : Machine) (g : Flags) (p : Plan) (a : ℕ) (d : List ℕ) where
-  -- by the same effect, it comes to the same
-  by-effect : (e e′ : Effect) → e′ ≡ e → committed (e′ .outcome) e′ (withFlags m g) d ≡ committed (e .outcome) e m d
-  by-effect e e′ h = rw h (commit-same (e .outcome) e m g d)
+  -- by an effect with these flags clear
+  by-write : (us : List Flag) (answer : Stored) (e : Effect) → without us (e .machine .flags) ≡ e .machine .flags → Settled us (stored answer e d) (stored answer e d)
+  unfolding stored
+  by-write us Done e h = moves h
+  by-write us (Stored.Outside b) e h = stops
 
-  by-computed : (c c′ : Computed) → c′ ≡ c
-      → committed ((Effects.settled c′ (withFlags m g) p a) .outcome) (Effects.settled c′ (withFlags m g) p a) (withFlags m g) d
-      ≡ committed ((Effects.settled c m p a) .outcome) (Effects.settled c m p a) m d
-  by-computed c c′ h = by-effect _ _ (rw h (settled-same c m g p a))
+  by-outcome : (us : List Flag) (o : Outcome) (e : Effect) → without us (e .machine .flags) ≡ e .machine .flags
+      → Settled us (committed o e m d) (committed o e (withFlags m g) d)
+  unfolding withFlags committed
+  by-outcome us Becomes e h = moves h
+  by-outcome us Writes e h = by-write us _ e h
+  by-outcome us Faults e h = stops
+
+  by-effect : (us : List Flag) (e e′ : Effect) → e′ ≡ e → without us (e .machine .flags) ≡ e .machine .flags
+      → Settled us (committed (e .outcome) e m d) (committed (e′ .outcome) e′ (withFlags m g) d)
+  by-effect us e e′ same h = rw same (by-outcome us (e .outcome) e h)
+
+  -- by what was computed
+  by-computed : (us : List Flag) (c c′ : Computed) → c′ ≡ c → without us (c .flags) ≡ c .flags
+      → Settled us (committed ((Effects.settled c m p a) .outcome) (Effects.settled c m p a) m d)
+      (committed ((Effects.settled c′ (withFlags m g) p a) .outcome) (Effects.settled c′ (withFlags m g) p a) (withFlags m g) d)
+  by-computed us c c′ same h = by-effect us _ _ (rw same (settled-same c m g p a)) (rw (settled-flags c m p a) h)
 
   multiplied-same : (b : ℕ) → DifferOnlyIn productUndefined (m .flags) g → Effects.multiplied (withFlags m g) p b ≡ Effects.multiplied m p b
   unfolding Regardless register withEip withFlags part onward Effects.multiplied
-  multiplied-same b h = rw (Products.flags-regardless _ (m .flags) g h)
+  multiplied-same b h = rw (Products.product-settles _ .regardless (m .flags) g h)
 
   multiplied-signed-same : (b : ℕ) → DifferOnlyIn productUndefined (m .flags) g
       → Effects.multipliedSigned (withFlags m g) p b ≡ Effects.multipliedSigned m p b
   unfolding Regardless register withEip withFlags part onward Effects.multipliedSigned
-  multiplied-signed-same b h = rw (Products.flags-regardless _ (m .flags) g h)
+  multiplied-signed-same b h = rw (Products.product-settles _ .regardless (m .flags) g h)
 
   -- a division, of which a fault leaves nothing
-  quotient-same : (q : Division) → DifferOnlyIn divisionUndefined (m .flags) g
-      → committed ((Effects.quotient q (withFlags m g) p) .outcome) (Effects.quotient q (withFlags m g) p) (withFlags m g) d
-      ≡ committed ((Effects.quotient q m p) .outcome) (Effects.quotient q m p) m d
-  unfolding withEip withFlags onward becomes faults committed Regardless divisionUndefined Effects.quotient
-  quotient-same Fault h = refl
-  quotient-same (Parts q r) h = rw (all-regardless (m .flags) g h)
+  by-quotient : (q : Division) → DifferOnlyIn divisionUndefined (m .flags) g
+      → Settled divisionUndefined (committed ((Effects.quotient q m p) .outcome) (Effects.quotient q m p) m d)
+      (committed ((Effects.quotient q (withFlags m g) p) .outcome) (Effects.quotient q (withFlags m g) p) (withFlags m g) d)
+  unfolding Regardless withRegister withEip withFlags withPart onward becomes faults committed divisionUndefined Effects.doubled Effects.quotient
+  by-quotient Fault h = stops
+  by-quotient (Parts q r) h = rw (← all-settle .regardless (m .flags) g h) (moves (all-settle .clear (m .flags)))
 
   destination-same : (r : ℕ) → value (p .destination) (withFlags m g) r (p .size) ≡ value (p .destination) m r (p .size)
   destination-same r = value-same (p .destination) m g r (p .size)
@@ -112,84 +130,28 @@ module _ (m : Machine) (g : Flags) (p : Plan) (a : ℕ) (d : List ℕ) where
   source-same : (r : ℕ) → value (p .source) (withFlags m g) r (p .size) ≡ value (p .source) m r (p .size)
   source-same r = value-same (p .source) m g r (p .size)
 
-  -- of two machines that differ only in flags left undefined, an operation comes to the same
-  pub comes-same : (op : Arithmetic) (r : ℕ) → DifferOnlyIn (arithmeticUndefined op m p r) (m .flags) g
-      → comesTo op (withFlags m g) p a d r ≡ comesTo op m p a d r
-  unfolding withFlags without DifferOnlyIn comesTo arithmeticUndefined Effects.divided Effects.dividedSigned arithmeticEffect
-  comes-same (Arithmetic.Binary op) r h =
-      by-computed _ _
-      (rw (destination-same r, source-same r) (binary-same (p .size) _ _ (m .flags) g op h))
-  comes-same Arithmetic.Test r h =
-      by-computed _ _
-      (rw (destination-same r, source-same r) (test-same (p .size) _ _ (m .flags) g h))
-  comes-same (Arithmetic.Single op) r h = by-computed _ _ (rw (destination-same r, ← h))
-  comes-same (Arithmetic.Shift op) r h =
-      by-computed _ _
-      (rw (destination-same r, value-same (p .source) m g r Byte) (shift-same (p .size) _ _ (m .flags) g op h))
-  comes-same Arithmetic.Mul r h =
-      rw (destination-same r) (by-effect _ _ (multiplied-same (value (p .destination) m r (p .size)) h))
-  comes-same Arithmetic.Imul r h =
-      rw (destination-same r) (by-effect _ _ (multiplied-signed-same (value (p .destination) m r (p .size)) h))
-  comes-same Arithmetic.ImulLow r h =
-      by-computed _ _
-      (rw (source-same r, value-same (p .other) m g r (p .size)) (product-same (p .size) _ _ (m .flags) g h))
-  comes-same Arithmetic.Div r h =
-      rw (destination-same r, part-same m g (p .size) (Effects.upper (p .size)), part-same m g (p .size) 0) (quotient-same _ h)
-  comes-same Arithmetic.Idiv r h =
-      rw (destination-same r, part-same m g (p .size) (Effects.upper (p .size)), part-same m g (p .size) 0) (quotient-same _ h)
-  comes-same (Arithmetic.Bits op) r h =
-      by-computed _ _
-      (rw (destination-same r, source-same r, value-same (p .other) m g r Byte)
-      (bits-same (p .size) _ _ (m .flags) g op _ h))
-  comes-same (Arithmetic.BitString op) r h =
-      by-computed _ _
-      (rw (destination-same r, source-same r) (bit-same (p .size) _ _ (m .flags) g op h))
-
--- what a step comes to has the flags of a list clear
-pub data Cleared (us : List Flag) : Moved → Type 0 where
-  moves : {m : Machine} {d : List ℕ} → without us (m .flags) ≡ m .flags → Cleared us (next m d)
-  stops : {n a : ℕ} → Cleared us (stop n a)
-
--- where those of its effect are
-stored-clear : (us : List Flag) (answer : Stored) (e : Effect) (d : List ℕ) → without us (e .machine .flags) ≡ e .machine .flags → Cleared us (stored answer e d)
-unfolding stored
-stored-clear us Done e d h = moves h
-stored-clear us (Stored.Outside b) e d h = stops
-
-by-flags : (us : List Flag) (o : Outcome) (e : Effect) (m : Machine) (d : List ℕ) → without us (e .machine .flags) ≡ e .machine .flags → Cleared us (committed o e m d)
-unfolding committed
-by-flags us Becomes e m d h = moves h
-by-flags us Writes e m d h = stored-clear us _ e d h
-by-flags us Faults e m d h = stops
-
-module _ (m : Machine) (p : Plan) (a : ℕ) (d : List ℕ) where
-  -- where those that were computed are
-  by-settled : (us : List Flag) (c : Computed) → without us (c .flags) ≡ c .flags
-      → Cleared us (committed ((Effects.settled c m p a) .outcome) (Effects.settled c m p a) m d)
-  by-settled us c h = by-flags us _ (Effects.settled c m p a) m d (rw (settled-flags c m p a) h)
-
-  quotient-clear : (q : Division) → Cleared divisionUndefined (committed ((Effects.quotient q m p) .outcome) (Effects.quotient q m p) m d)
-  unfolding Clears withRegister withFlags withPart becomes faults committed divisionUndefined Effects.doubled Effects.quotient
-  quotient-clear Fault = stops
-  quotient-clear (Parts q r) = moves (all-clears (m .flags))
-
-  bits-clear : (op : Bits) (w : Size) (v s count : ℕ) → without (bitsUndefined op w count) ((bitsComputed op w v s count (m .flags)) .flags) ≡ (bitsComputed op w v s count (m .flags)) .flags
-  unfolding Clears bitsUndefined bitTested scanned doubleShifted bitsComputed
-  bits-clear (Bits.Test op) w v s count = Bits.test-clears w v s (m .flags)
-  bits-clear (Bits.Scan op) w v s count = Bits.scan-clears s (m .flags)
-  bits-clear (Bits.Double op) w v s count = Bits.double-clears op w v s count (m .flags)
-
-  -- after an operation those left undefined are
-  pub comes-clear : (op : Arithmetic) (r : ℕ) → Cleared (arithmeticUndefined op m p r) (comesTo op m p a d r)
-  unfolding without Clears withRegister withFlags withPart becomes bitTested Effects.binary Effects.test Effects.single Effects.shift Effects.multipliedLow Effects.doubled Effects.multiplied Effects.multipliedSigned Effects.divided Effects.dividedSigned arithmeticEffect comesTo arithmeticUndefined
-  comes-clear (Arithmetic.Binary op) r = by-settled _ _ (Arith.flags-clear op (p .size) _ _ (m .flags))
-  comes-clear Arithmetic.Test r = by-settled _ _ (Arith.flags-clear And (p .size) _ _ (m .flags))
-  comes-clear (Arithmetic.Single op) r = by-settled _ _ refl
-  comes-clear (Arithmetic.Shift op) r = by-settled _ _ (Shifts.flags-clear op (p .size) _ _ (m .flags))
-  comes-clear Arithmetic.Mul r = by-flags _ _ _ m d (Products.flags-clear _ (m .flags))
-  comes-clear Arithmetic.Imul r = by-flags _ _ _ m d (Products.flags-clear _ (m .flags))
-  comes-clear Arithmetic.ImulLow r = by-settled _ _ (Products.flags-clear _ (m .flags))
-  comes-clear Arithmetic.Div r = quotient-clear _
-  comes-clear Arithmetic.Idiv r = quotient-clear _
-  comes-clear (Arithmetic.Bits op) r = by-settled _ _ (bits-clear op (p .size) _ _ _)
-  comes-clear (Arithmetic.BitString op) r = by-settled _ _ (Bits.test-clears (p .size) _ _ (m .flags))
+  -- two machines that differ only in flags left undefined
+  pub comes-settled : (op : Arithmetic) (r : ℕ) → DifferOnlyIn (arithmeticUndefined op m p r) (m .flags) g
+      → Settled (arithmeticUndefined op m p r) (comesTo op m p a d r) (comesTo op (withFlags m g) p a d r)
+  unfolding without DifferOnlyIn withRegister withFlags withPart becomes bitTested Effects.binary Effects.test Effects.single Effects.shift Effects.multipliedLow Effects.doubled Effects.multiplied Effects.multipliedSigned Effects.divided Effects.dividedSigned arithmeticEffect comesTo arithmeticUndefined
+  comes-settled (Arithmetic.Binary op) r h =
+      by-computed _ _ _ (rw (destination-same r, source-same r) (binary-same (p .size) _ _ (m .flags) g op h)) (Arith.binary-settles op (p .size) _ _ .clear (m .flags))
+  comes-settled Arithmetic.Test r h =
+      by-computed _ _ _ (rw (destination-same r, source-same r) (test-same (p .size) _ _ (m .flags) g h)) (Arith.binary-settles And (p .size) _ _ .clear (m .flags))
+  comes-settled (Arithmetic.Single op) r h = by-computed _ _ _ (rw (destination-same r, ← h)) refl
+  comes-settled (Arithmetic.Shift op) r h =
+      by-computed _ _ _ (rw (destination-same r, value-same (p .source) m g r Byte) (shift-same (p .size) _ _ (m .flags) g op h)) (Shifts.shift-settles op (p .size) _ _ .clear (m .flags))
+  comes-settled Arithmetic.Mul r h =
+      rw (destination-same r) (by-effect _ _ _ (multiplied-same (value (p .destination) m r (p .size)) h) (Products.product-settles _ .clear (m .flags)))
+  comes-settled Arithmetic.Imul r h =
+      rw (destination-same r) (by-effect _ _ _ (multiplied-signed-same (value (p .destination) m r (p .size)) h) (Products.product-settles _ .clear (m .flags)))
+  comes-settled Arithmetic.ImulLow r h =
+      by-computed _ _ _ (rw (source-same r, value-same (p .other) m g r (p .size)) (product-same (p .size) _ _ (m .flags) g h)) (Products.product-settles _ .clear (m .flags))
+  comes-settled Arithmetic.Div r h =
+      rw (destination-same r, part-same m g (p .size) (Effects.upper (p .size)), part-same m g (p .size) 0) (by-quotient _ h)
+  comes-settled Arithmetic.Idiv r h =
+      rw (destination-same r, part-same m g (p .size) (Effects.upper (p .size)), part-same m g (p .size) 0) (by-quotient _ h)
+  comes-settled (Arithmetic.Bits op) r h =
+      by-computed _ _ _ (rw (destination-same r, source-same r, value-same (p .other) m g r Byte) (bits-same (p .size) _ _ (m .flags) g op _ h)) (bits-clear (p .size) _ _ (m .flags) g op _)
+  comes-settled (Arithmetic.BitString op) r h =
+      by-computed _ _ _ (rw (destination-same r, source-same r) (bit-same (p .size) _ _ (m .flags) g op h)) (Bits.test-settles (p .size) _ _ .clear (m .flags))

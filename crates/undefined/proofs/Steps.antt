@@ -26,22 +26,22 @@ use Rattle.effect.specs.All.{addressBy, readsBy, effectBy}
 use Rattle.run.specs.Steps.{Moved, next, stop, home, inside, committed, finished, loaded, performed, operandAddress, planned, executed, stepOf}
 use Rattle.undefined.specs.Undefined.{arithmeticUndefined, undefinedBy, given, firstRead, planUndefined, foundUndefined, stepUndefined, Alike}
 use Rattle.undefined.proofs.Unflagged.{address-same, operand-same}
-use Rattle.undefined.proofs.Effects.{comesTo, comes-same, Cleared, moves, stops, comes-clear}
+use Rattle.undefined.proofs.Effects.{Settled, moves, stops, comesTo, comes-settled}
 
 -- a read, and then what follows for what it gives
-loaded-same : (l : Loaded) (go go′ : ℕ → Moved) → ((r : ℕ) → r ≡ given l → go′ r ≡ go r) → loaded l go′ ≡ loaded l go
+loaded-settled : (us : List Flag) (l : Loaded) (go go′ : ℕ → Moved) → ((r : ℕ) → r ≡ given l → Settled us (go r) (go′ r)) → Settled us (loaded l go) (loaded l go′)
 unfolding given loaded
-loaded-same (Value v) go go′ h = h v refl
-loaded-same (Loaded.Outside b) go go′ h = refl
+loaded-settled us (Value v) go go′ h = h v refl
+loaded-settled us (Loaded.Outside b) go go′ h = stops
 
-module _ (p : Plan) (m m′ : Machine) (a : ℕ) (d : List ℕ) where
-  -- the reads, and then the effect for what the first gives
-  performed-same : (reads : Reads) → ((r s : ℕ) → r ≡ firstRead reads d → finished p m′ a d r s ≡ finished p m a d r s)
-      → performed reads p m′ a d ≡ performed reads p m a d
+-- the reads, and then the effect for what the first gives
+module _ (p : Plan) (m m′ : Machine) (a : ℕ) (d : List ℕ) (us : List Flag) where
+  performed-settled : (reads : Reads) → ((r s : ℕ) → r ≡ firstRead reads d → Settled us (finished p m a d r s) (finished p m′ a d r s))
+      → Settled us (performed reads p m a d) (performed reads p m′ a d)
   unfolding firstRead performed
-  performed-same Nothing h = h 0 0 refl
-  performed-same (One w b) h = loaded-same (loadOf d w b) _ _ (λ r e. h r 0 e)
-  performed-same (Two w b c) h = loaded-same (loadOf d w b) _ _ (λ r e. loaded-same (loadOf d w c) _ _ (λ s e′. h r s e))
+  performed-settled Nothing h = h 0 0 refl
+  performed-settled (One w b) h = loaded-settled us (loadOf d w b) _ _ (λ r e. h r 0 e)
+  performed-settled (Two w b c) h = loaded-settled us (loadOf d w b) _ _ (λ r e. loaded-settled us (loadOf d w c) _ _ (λ s e′. h r s e))
 
 -- the parts of the step of a plan whose operation computes
 module _ (p : Plan) (m : Machine) (d : List ℕ) (op : Arithmetic) (e : p .operation ≡ Operation.Arithmetic op) where
@@ -75,106 +75,84 @@ unfolding planUndefined
 none-left p m d o e none =
     let r = firstRead (readsBy (p .operation) m p (operandAddress p m)) d in ap (λ x. undefinedBy x m p r) e ∙ none r
 
+-- where no flag is left undefined
+none-settled : (v : Moved) → Settled [] v v
+unfolding without
+none-settled (next m d) = moves refl
+none-settled (stop n a) = stops
+
 module _ (p : Plan) (m : Machine) (g : Flags) (d : List ℕ) where
   -- an operation that computes
   computed : (op : Arithmetic) → p .operation ≡ Operation.Arithmetic op → DifferOnlyIn (planUndefined p m d) (m .flags) g
-      → planned p (withFlags m g) d ≡ planned p m d
+      → Settled (planUndefined p m d) (planned p m d) (planned p (withFlags m g) d)
   computed op e h =
       let a = arithmeticAddress op m p (effectiveAddress m (p .address)) in
-      let known : DifferOnlyIn (arithmeticUndefined op m p (firstRead (arithmeticReads p a) d)) (m .flags) g = rw (undefined-are p m d op e) at h in
-      let same : (r s : ℕ) → r ≡ firstRead (arithmeticReads p a) d → finished p (withFlags m g) a d r s ≡ finished p m a d r s =
-      λ r s first. finished-is p (withFlags m g) d op e a r s ∙ comes-same m g p a d op r (rw first known) ∙ sym (finished-is p m d op e a r s) in
-      rw (planned-is p (withFlags m g) d op e, planned-is p m d op e, address-same m g (p .address), operand-same op m g p (effectiveAddress m (p .address)))
-      (performed-same p m (withFlags m g) a d (arithmeticReads p a) same)
+      let us = arithmeticUndefined op m p (firstRead (arithmeticReads p a) d) in
+      let known : DifferOnlyIn us (m .flags) g = rw (undefined-are p m d op e) at h in
+      rw (undefined-are p m d op e, planned-is p (withFlags m g) d op e, planned-is p m d op e, address-same m g (p .address), operand-same op m g p (effectiveAddress m (p .address)))
+      (performed-settled p m (withFlags m g) a d us (arithmeticReads p a)
+      (λ r s first. rw (finished-is p (withFlags m g) d op e a r s, finished-is p m d op e a r s, ← first) (comes-settled m g p a d op r (rw first known))))
 
   -- one that leaves no flag undefined
-  none-undefined : planUndefined p m d ≡ [] → DifferOnlyIn (planUndefined p m d) (m .flags) g → planned p (withFlags m g) d ≡ planned p m d
+  unflagged : planUndefined p m d ≡ [] → DifferOnlyIn (planUndefined p m d) (m .flags) g
+      → Settled (planUndefined p m d) (planned p m d) (planned p (withFlags m g) d)
   unfolding withFlags without DifferOnlyIn
-  none-undefined none h = let same : m .flags ≡ g = rw none at h in rw (← same)
+  unflagged none h = let same : m .flags ≡ g = rw none at h in rw (none, ← same) (none-settled (planned p m d))
 
   -- any operation
-  by-operation : (o : Operation) → p .operation ≡ o → DifferOnlyIn (planUndefined p m d) (m .flags) g
-      → planned p (withFlags m g) d ≡ planned p m d
+  planned-settled : (o : Operation) → p .operation ≡ o → DifferOnlyIn (planUndefined p m d) (m .flags) g
+      → Settled (planUndefined p m d) (planned p m d) (planned p (withFlags m g) d)
   unfolding undefinedBy
-  by-operation (Operation.Arithmetic op) e h = computed op e h
-  by-operation (Operation.Move op) e h = none-undefined (none-left p m d _ e (λ r. refl)) h
-  by-operation (Operation.Flagging op) e h = none-undefined (none-left p m d _ e (λ r. refl)) h
-  by-operation (Operation.Stack op) e h = none-undefined (none-left p m d _ e (λ r. refl)) h
-  by-operation (Operation.Branch op) e h = none-undefined (none-left p m d _ e (λ r. refl)) h
-  by-operation (Operation.Strings op) e h = none-undefined (none-left p m d _ e (λ r. refl)) h
+  planned-settled (Operation.Arithmetic op) e h = computed op e h
+  planned-settled (Operation.Move op) e h = unflagged (none-left p m d _ e (λ r. refl)) h
+  planned-settled (Operation.Flagging op) e h = unflagged (none-left p m d _ e (λ r. refl)) h
+  planned-settled (Operation.Stack op) e h = unflagged (none-left p m d _ e (λ r. refl)) h
+  planned-settled (Operation.Branch op) e h = unflagged (none-left p m d _ e (λ r. refl)) h
+  planned-settled (Operation.Strings op) e h = unflagged (none-left p m d _ e (λ r. refl)) h
 
 -- what is found at EIP
-executed-same : (f : Found) (m : Machine) (g : Flags) (d : List ℕ) → DifferOnlyIn (foundUndefined f m d) (m .flags) g
-    → executed f (withFlags m g) d ≡ executed f m d
+executed-settled : (f : Found) (m : Machine) (g : Flags) (d : List ℕ) → DifferOnlyIn (foundUndefined f m d) (m .flags) g
+    → Settled (foundUndefined f m d) (executed f m d) (executed f (withFlags m g) d)
 unfolding withFlags foundUndefined executed
-executed-same (Found.Instruction i) m g d h = by-operation (planOf (m .eip) i) m g d _ refl h
-executed-same Found.Cut m g d h = refl
-executed-same Found.Unknown m g d h = refl
+executed-settled (Found.Instruction i) m g d h = planned-settled (planOf (m .eip) i) m g d _ refl h
+executed-settled Found.Cut m g d h = stops
+executed-settled Found.Unknown m g d h = stops
 
--- the machine with the other's flags
-other : (m m′ : Machine) → m′ .regs ≡ m .regs → m′ .eip ≡ m .eip → m′ ≡ withFlags m (m′ .flags)
-unfolding withFlags
-other m m′ regs eip = rw (sym regs, sym eip)
-
--- two machines that differ only in flags that 003 leaves undefined after the step: it comes to the same, flags and all
-pub step-regardless : (code : List ℕ) (m m′ : Machine) (d : List ℕ) → Alike (stepUndefined code m d) m m′
-    → stepOf code m′ d ≡ stepOf code m d
-unfolding withFlags stepUndefined stepOf
-step-regardless code m m′ d h =
-    rw (other m m′ (h .regs) (h .eip)) (rw (executed-same (decodeOf code (m .eip - codeBase)) m (m′ .flags) d (h .flags)))
-
--- a read, and then what follows for what it gives
-loaded-clear : (us : List Flag) (l : Loaded) (go : ℕ → Moved) → ((r : ℕ) → r ≡ given l → Cleared us (go r)) → Cleared us (loaded l go)
-unfolding given loaded
-loaded-clear us (Value v) go h = h v refl
-loaded-clear us (Loaded.Outside b) go h = stops
-
--- the reads, and then the effect for what the first gives
-performed-clear : (p : Plan) (m : Machine) (a : ℕ) (d : List ℕ) (us : List Flag) (reads : Reads)
-    → ((r s : ℕ) → r ≡ firstRead reads d → Cleared us (finished p m a d r s)) → Cleared us (performed reads p m a d)
-unfolding firstRead performed
-performed-clear p m a d us Nothing h = h 0 0 refl
-performed-clear p m a d us (One w b) h = loaded-clear us (loadOf d w b) _ (λ r e. h r 0 e)
-performed-clear p m a d us (Two w b c) h = loaded-clear us (loadOf d w b) _ (λ r e. loaded-clear us (loadOf d w c) _ (λ s e′. h r s e))
-
--- no flag is left undefined
-none-clear : (v : Moved) → Cleared [] v
-unfolding without
-none-clear (next m d) = moves refl
-none-clear (stop n a) = stops
-
-module _ (p : Plan) (m : Machine) (d : List ℕ) where
-  planned-clear : (o : Operation) → p .operation ≡ o → Cleared (planUndefined p m d) (planned p m d)
-  unfolding undefinedBy
-  planned-clear (Operation.Arithmetic op) e =
-      rw (undefined-are p m d op e, planned-is p m d op e)
-      (performed-clear p m _ d _ _ (λ r s first. rw (← first, finished-is p m d op e _ r s) (comes-clear m p _ d op r)))
-  planned-clear (Operation.Move op) e = rw (none-left p m d _ e (λ r. refl)) (none-clear (planned p m d))
-  planned-clear (Operation.Flagging op) e = rw (none-left p m d _ e (λ r. refl)) (none-clear (planned p m d))
-  planned-clear (Operation.Stack op) e = rw (none-left p m d _ e (λ r. refl)) (none-clear (planned p m d))
-  planned-clear (Operation.Branch op) e = rw (none-left p m d _ e (λ r. refl)) (none-clear (planned p m d))
-  planned-clear (Operation.Strings op) e = rw (none-left p m d _ e (λ r. refl)) (none-clear (planned p m d))
-
-executed-clear : (f : Found) (m : Machine) (d : List ℕ) → Cleared (foundUndefined f m d) (executed f m d)
-unfolding foundUndefined executed
-executed-clear (Found.Instruction i) m d = planned-clear (planOf (m .eip) i) m d _ refl
-executed-clear Found.Cut m d = stops
-executed-clear Found.Unknown m d = stops
-
-either : (us : List Flag) (b : Bool) {x y : Moved} → Cleared us x → Cleared us y → Cleared us (cond b x y)
+-- either of two ways
+either : (us : List Flag) (b : Bool) {x y x′ y′ : Moved} → Settled us x x′ → Settled us y y′ → Settled us (cond b x y) (cond b x′ y′)
 either us true p q = p
 either us false p q = q
 
-step-clear : (code : List ℕ) (m : Machine) (d : List ℕ) → Cleared (stepUndefined code m d) (stepOf code m d)
-unfolding stepUndefined stepOf
-step-clear code m d =
-    either (stepUndefined code m d) (eqb (m .eip) home) stops
-    (either (stepUndefined code m d) (inside code (m .eip)) (executed-clear (decodeOf code (m .eip - codeBase)) m d) stops)
+-- the machine with the other's flags
+with-others : (m m′ : Machine) → m′ .regs ≡ m .regs → m′ .eip ≡ m .eip → m′ ≡ withFlags m (m′ .flags)
+unfolding withFlags
+with-others m m′ regs eip = rw (sym regs, sym eip)
+
+-- a step of two machines that differ only in flags that 003 leaves undefined after it
+step-settled : (code : List ℕ) (m m′ : Machine) (d : List ℕ) → Alike (stepUndefined code m d) m m′
+    → Settled (stepUndefined code m d) (stepOf code m d) (stepOf code m′ d)
+unfolding withFlags stepUndefined stepOf
+step-settled code m m′ d h =
+    let us = stepUndefined code m d in
+    rw (with-others m m′ (h .regs) (h .eip))
+    (either us (eqb (m .eip) home) stops
+    (either us (inside code (m .eip)) (executed-settled (decodeOf code (m .eip - codeBase)) m (m′ .flags) d (h .flags)) stops))
+
+-- it comes to the same, flags and all
+pub step-regardless : (code : List ℕ) (m m′ : Machine) (d : List ℕ) → Alike (stepUndefined code m d) m m′
+    → stepOf code m′ d ≡ stepOf code m d
+step-regardless code m m′ d h = same (step-settled code m m′ d h)
+  where
+    same : {us : List Flag} {v v′ : Moved} → Settled us v v′ → v′ ≡ v
+    same (moves h) = refl
+    same stops = refl
 
 -- after a step that goes on, the flags that 003 leaves undefined are clear
 pub step-clears : (code : List ℕ) (m m′ : Machine) (d d′ : List ℕ) → stepOf code m d ≡ next m′ d′
     → without (stepUndefined code m d) (m′ .flags) ≡ m′ .flags
-step-clears code m m′ d d′ goes = from (rw goes at (step-clear code m d))
+unfolding DifferOnlyIn
+step-clears code m m′ d d′ goes =
+    clear (rw goes at (step-settled code m m d (record { regs = refl; eip = refl; flags = refl })))
   where
-    from : {us : List Flag} → Cleared us (next m′ d′) → without us (m′ .flags) ≡ m′ .flags
-    from (moves h) = h
+    clear : {us : List Flag} → Settled us (next m′ d′) (next m′ d′) → without us (m′ .flags) ≡ m′ .flags
+    clear (moves h) = h
