@@ -11,9 +11,10 @@ use Rattle.grammar.specs.Grammar.{Opcode, alone, after0F, opcodeByte, opcodeByt
 use Rattle.grammar.specs.Answers.{numbers}
 use Rattle.grammar.proofs.Answered.{instruction-found}
 use Rattle.blockcheck.proofs.Cuts.{same-length}
-use Rattle.text.specs.Digits.{hexadecimal}
+use Rattle.text.specs.Digits.{hexadecimal, hexBytes}
 use Rattle.text.proofs.Numbers.{hexadecimal-byte}
-use Rattle.listing_text.specs.Listing.{tab, newline, field, opcodeText, lineOf, lineThen, linesFrom, hexBytes, instructionLine, cutLines}
+use Rattle.listing_text.specs.Listing.{opcodeText, lineOf, lineThen, linesFrom, instructionLine, cutLines}
+use Rattle.text.specs.Fields.{tab, newline, field}
 
 -- an opcode's text is its bytes in capital hex
 opcode-hex : (o : Opcode) → opcodeByte o < 256 → opcodeText (opcodeNumber o) ≡ hexBytes (opcodeBytes o)

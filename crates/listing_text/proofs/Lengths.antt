@@ -19,9 +19,10 @@ use Rattle.blockcheck.proofs.Cuts.{pieces-within, astray-within}
 use Rattle.blockcheck.specs.Blocks.{Reached, Judged, bad-length, bad-marks, cut-at, unknown-at, astray-at, accepted}
 use Rattle.text.specs.Ascii.{ascii}
 use Rattle.text.specs.Digits.{hexadecimal}
+use Rattle.text.specs.Fields.{tab, newline, field, refusedWord, refusal}
 use Rattle.text.proofs.Writing.{within, wrote-whole}
 use Rattle.text.proofs.Numbers.{decimal-short, hexadecimal-length}
-use Rattle.listing_text.specs.Listing.{tab, newline, header, acceptedWord, refusedWord, field, opcodeText, lineOf, lineThen, linesFrom, refusal, bodyOf, textOf, longest, Listed}
+use Rattle.listing_text.specs.Listing.{header, acceptedWord, opcodeText, lineOf, lineThen, linesFrom, bodyOf, textOf, longest, Listed}
 
 -- a number of at most five digits, and the byte after it
 field-short : (n end : ℕ) → n ≤ 65536 → length (field n end) ≤ 6

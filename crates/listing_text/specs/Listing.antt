@@ -10,15 +10,8 @@ use Rattle.grammar.specs.declared.instruction.Found.{Found}
 use Rattle.blockcheck.specs.Blocks.{Judged}
 use Rattle.text.specs.Ascii.{ascii}
 use Rattle.text.specs.Written.{Wrote}
-use Rattle.text.specs.Digits.{decimal, hexadecimal}
-
--- what parts the fields of a line
-abbrev pub tab : ℕ
-tab = 9
-
--- what ends a line
-abbrev pub newline : ℕ
-newline = 10
+use Rattle.text.specs.Digits.{hexadecimal, hexBytes}
+use Rattle.text.specs.Fields.{tab, newline, field, refusal}
 
 -- the fixed header
 unfoldable pub header : List ℕ
@@ -27,14 +20,6 @@ header = ascii "offset\tlength\topcode\n"
 -- how the last line begins
 unfoldable pub acceptedWord : List ℕ
 acceptedWord = ascii "accepted\t"
-
--- how the line of a refused block begins
-unfoldable pub refusedWord : List ℕ
-refusedWord = ascii "refused\t"
-
--- a number in decimal, and the byte after it
-unfoldable pub field : ℕ → ℕ → List ℕ
-field n end = decimal n ++ end ∷ []
 
 -- an opcode's number in capital hex: two digits, and four after 0F
 unfoldable pub opcodeText : ℕ → List ℕ
@@ -55,11 +40,6 @@ unfoldable pub linesFrom : List ℕ → ℕ → ℕ → List ℕ
 linesFrom code zero i = []
 linesFrom code (suc n) i = lineThen i (decodeOf code i) (linesFrom code n)
 
--- bytes in capital hex
-unfoldable pub hexBytes : List ℕ → List ℕ
-hexBytes [] = []
-hexBytes (b ∷ bytes) = hexadecimal 2 b ++ hexBytes bytes
-
 -- by the grammar, an instruction's line: its offset and length in decimal, its opcode's bytes in capital hex
 unfoldable pub instructionLine : ℕ → (bytes : List ℕ) → Instruction bytes → List ℕ
 instructionLine i bytes instruction =
@@ -69,10 +49,6 @@ instructionLine i bytes instruction =
 unfoldable pub cutLines : ℕ → {pieces : List (List ℕ)} {code : List ℕ} → Cut pieces code → List ℕ
 cutLines i done = []
 cutLines i (next {bytes} instruction later) = instructionLine i bytes instruction ++ cutLines (i + length bytes) later
-
--- the line of a refused block: the number and the offset
-unfoldable pub refusal : ℕ → ℕ → List ℕ
-refusal number offset = refusedWord ++ field number tab ++ field offset newline
 
 -- what follows the header, by the paper's number and value: the lines and the count where it is 0
 unfoldable pub bodyOf : List ℕ → ℕ → ℕ → List ℕ

@@ -3,18 +3,10 @@ use grammar::instruction::Found;
 use grammar::reader::own_bytes;
 use grammar::reader::read;
 use text::put_byte;
-use text::put_decimal;
+use text::put_field;
 use text::put_hex;
 ghost use Rattle.text.specs.Written.{Wrote};
-ghost use Rattle.listing_text.specs.Listing.{field, opcodeText, lineOf, linesFrom};
-
-// A number in decimal, and the byte after it.
-pub fn put_field(out: &mut [u8], at: usize, n: usize, end: u8) -> usize
-    ensures { λ r. ⌜ Wrote (now (out .entry)) at (field n end) r (now (out .exit)) ⌝ }
-{
-    let next = put_decimal(out, at, n as u64);
-    put_byte(out, next, end)
-}
+ghost use Rattle.listing_text.specs.Listing.{opcodeText, lineOf, linesFrom};
 
 // An opcode in capital hex: two digits, and four after 0F.
 fn put_opcode(out: &mut [u8], at: usize, opcode: usize) -> usize

@@ -1,12 +1,14 @@
 // The text of a block, from what the check answers.
-use crate::lines::put_field;
 use crate::lines::put_lines;
 use blockcheck::Verdict;
 use text::put_bytes;
+use text::put_field;
+use text::put_refusal;
 ghost use mathlib.Core.List.{_++_};
 ghost use Rattle.blockcheck.specs.Blocks.{numberOf, valueOf};
 ghost use Rattle.text.specs.Written.{Wrote};
-ghost use Rattle.listing_text.specs.Listing.{tab, newline, refusedWord, acceptedWord, field, linesFrom, bodyOf, textOf};
+ghost use Rattle.text.specs.Fields.{newline, field};
+ghost use Rattle.listing_text.specs.Listing.{acceptedWord, linesFrom, bodyOf, textOf};
 
 // The lines of an accepted block, and the count of its instructions.
 fn put_accepted(code: &[u8], count: usize, out: &mut [u8], at: usize) -> usize
@@ -17,26 +19,17 @@ fn put_accepted(code: &[u8], count: usize, out: &mut [u8], at: usize) -> usize
     put_field(out, past_word, count, b'\n')
 }
 
-// The line of a refused block.
-fn put_refused(out: &mut [u8], at: usize, number: usize, offset: usize) -> usize
-    ensures { λ r. ⌜ Wrote (now (out .entry)) at (refusedWord ++ field number tab ++ field offset newline) r (now (out .exit)) ⌝ }
-{
-    let past_word = put_bytes(out, at, b"refused\t");
-    let past_number = put_field(out, past_word, number, b'\t');
-    put_field(out, past_number, offset, b'\n')
-}
-
 // What follows the header.
 fn put_body(code: &[u8], verdict: Verdict, out: &mut [u8], at: usize) -> usize
     ensures { λ r. ⌜ Wrote (now (out .entry)) at (bodyOf (now (code .entry)) (numberOf verdict) (valueOf verdict)) r (now (out .exit)) ⌝ }
 {
     match verdict {
         Verdict::Accepted(count) => put_accepted(code, count, out, at),
-        Verdict::BadLength => put_refused(out, at, 10, 0),
-        Verdict::BadMarks => put_refused(out, at, 14, 0),
-        Verdict::CutAt(offset) => put_refused(out, at, 21, offset),
-        Verdict::UnknownAt(offset) => put_refused(out, at, 22, offset),
-        Verdict::AstrayAt(offset) => put_refused(out, at, 23, offset),
+        Verdict::BadLength => put_refusal(out, at, 10, 0),
+        Verdict::BadMarks => put_refusal(out, at, 14, 0),
+        Verdict::CutAt(offset) => put_refusal(out, at, 21, offset),
+        Verdict::UnknownAt(offset) => put_refusal(out, at, 22, offset),
+        Verdict::AstrayAt(offset) => put_refusal(out, at, 23, offset),
     }
 }
 

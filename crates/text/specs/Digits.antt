@@ -22,6 +22,11 @@ unfoldable pub hexadecimal : ℕ → ℕ → List ℕ
 hexadecimal zero n = []
 hexadecimal (suc k) n = hexadecimal k (n / 16) ++ hexDigit (n % 16) ∷ []
 
+-- bytes in base 16, two digits each
+unfoldable pub hexBytes : List ℕ → List ℕ
+hexBytes [] = []
+hexBytes (b ∷ bytes) = hexadecimal 2 b ++ hexBytes bytes
+
 -- the number that digits in a base stand for, behind a number already read; `value` is that of a digit
 unfoldable pub readOn : ℕ → (ℕ → ℕ) → ℕ → List ℕ → ℕ
 readOn base value n [] = n

@@ -2,3 +2,4 @@
 pub mod Ascii
 pub mod Written
 pub mod Digits
+pub mod Fields

@@ -4,6 +4,7 @@ ghost use mathlib.Core.List.{[], _∷_};
 ghost use Prim.Native.Nat.{_+_, _%_};
 ghost use Rattle.text.specs.Written.{Wrote};
 ghost use Rattle.text.specs.Digits.{decimal, hexDigit, hexadecimal};
+ghost use Rattle.text.specs.Fields.{field, refusal};
 
 // Writes a byte at a place, and gives the next place.
 pub fn put_byte(out: &mut [u8], at: usize, byte: u8) -> usize
@@ -64,4 +65,21 @@ pub fn put_hex(out: &mut [u8], at: usize, count: usize, n: u64) -> usize
     }
     let next = put_hex(out, at, count - 1, n / 16);
     put_byte(out, next, hex_digit(n))
+}
+
+// Writes a number in decimal and the byte after it, and gives the next place.
+pub fn put_field(out: &mut [u8], at: usize, n: usize, end: u8) -> usize
+    ensures { λ r. ⌜ Wrote (now (out .entry)) at (field n end) r (now (out .exit)) ⌝ }
+{
+    let next = put_decimal(out, at, n as u64);
+    put_byte(out, next, end)
+}
+
+// Writes the line of a refusal, and gives the next place.
+pub fn put_refusal(out: &mut [u8], at: usize, number: usize, place: usize) -> usize
+    ensures { λ r. ⌜ Wrote (now (out .entry)) at (refusal number place) r (now (out .exit)) ⌝ }
+{
+    let past_word = put_bytes(out, at, b"refused\t");
+    let past_number = put_field(out, past_word, number, b'\t');
+    put_field(out, past_number, place, b'\n')
 }

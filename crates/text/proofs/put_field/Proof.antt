@@ -1,9 +1,9 @@
--- `listing_text::lines::put_field` meets its contract: the digits, and the byte after them. Assumes nothing.
+-- `text::put_field` meets its contract: the digits, and the byte after them. Assumes nothing.
 use borrow.Author.Needs.{needs}
-use Rattle.listing_text.proofs.lines.put_field.Statement.{statement}
-use Rattle.listing_text.proofs.lines.put_field.Tie as tie
-use Rattle.listing_text.specs.Listing.{field}
 use Rattle.text.proofs.Writing.{wrote-both}
+use Rattle.text.proofs.put_field.Statement.{statement}
+use Rattle.text.proofs.put_field.Tie as tie
+use Rattle.text.specs.Fields.{field}
 
 returns : tie.Need-returns
 unfolding field
