@@ -1,4 +1,4 @@
-/* Sangolid: runs a calculation block of 32-bit x86 code, and checks one before it is run. */
+/* Sangolid: runs a calculation block of 32-bit x86 code, checks one before it is run, reads one from Intel HEX. */
 #ifndef SANGOLID_H
 #define SANGOLID_H
 
@@ -71,7 +71,38 @@ uint32_t sangolid_check(const uint8_t *code, size_t code_len, uint8_t *marks, si
                         size_t answer_len);
 
 /*
- * For both: a null pointer is fine where its length is 0. The lent areas must not overlap. Nothing is kept after the
+ * Reads a block from an Intel HEX file into the code area.
+ *
+ * text        the file's bytes. They are only read.
+ * text_len    how many they are; any number.
+ * code        the code area, only written: offset 0 is the file's address 00010000h.
+ * code_len    how many bytes it has; any number. No more than 65,536 are used.
+ * answer      1 word, only written: the code's length if 0 is returned, else the number of a line, the first being 1.
+ * answer_len  how many words the answer has: 1.
+ *
+ * Records of type 00 (data), 01 (end) and 04 (upper half of the address) are read, hex digits in either case, a record a
+ * line, from colon to checksum, ended by LF or CR LF. With 0 the code reaches the highest byte given, gaps before it hold
+ * 90h, and the area beyond it stays. With any other number the whole code area stays as it is.
+ *
+ * Returns what was found:
+ *    0  the file is read; answer: the code's length, 1 to 65,536.
+ *   30  this line isn't exactly one record and its end.
+ *   31  this line's bytes, checksum included, don't add up to 0 modulo 256.
+ *   32  a type other than 00, 01 and 04, or 01 with data bytes, or 04 without just two.
+ *   33  a data byte outside the code area, or above 0001FFFFh.
+ *   34  an address that an earlier line gave, even with an equal byte.
+ *   35  there is no end record; answer: 0.
+ *   36  a line after the end record.
+ *   37  there is no data byte; answer: 0.
+ *   90  the answer doesn't have 1 word. Nothing is changed.
+ * The first refused line decides: 36 before the rest, 30 to 34 in their order. Then come 35 and 37. The answer FFFFFFFFh
+ * stands for that line and for all after it. The call needs 128 KiB of stack.
+ */
+uint32_t sangolid_hex(const uint8_t *text, size_t text_len, uint8_t *code, size_t code_len, uint32_t *answer,
+                      size_t answer_len);
+
+/*
+ * For all three: a null pointer is fine where its length is 0. The lent areas must not overlap. Nothing is kept after the
  * call, and nothing but these areas is read or written.
  */
 

@@ -7,8 +7,9 @@ use lib.ListN.{length, getD, take, drop}
 use lib.Seq.{drop-cons}
 use borrow.Author.Tests.{eq-eqb, ne-eqb}
 use Rattle.blockcheck.proofs.Verdicts.{judged-unique}
+use Rattle.hex.proofs.Outcomes.{outcome-unique}
 use Rattle.run.specs.Runs.{refusal, refused, runOf}
-use Rattle.sangolid.specs.Interface.{lentOf, stateOf, Call, called, callOf, Calls, Checks, unfit, judged}
+use Rattle.sangolid.specs.Interface.{lentOf, stateOf, Call, called, callOf, Calls, Checks, unfit, judged, wordOf, Unhexes, unfit-answer, unhexed}
 
 -- any two permitted outcomes of a call of a run coincide
 pub calls-unique : {call : Call} {m n : ℕ} {s t a b : List ℕ} → Calls call m s a → Calls call n t b → (m ≡ n) × (s ≡ t) × (a ≡ b)
@@ -23,6 +24,16 @@ checks-unique (judged p j) (unfit q) = absurd (q p)
 checks-unique (judged p j) (judged q k) =
     let (number, value, marks) = judged-unique j k in
     (number, marks, ap (λ (v : ℕ). v ∷ []) value)
+
+-- any two permitted outcomes of reading a hex file coincide
+pub unhexes-unique : {text code answer : List ℕ} {m n : ℕ} {a b x y : List ℕ} → Unhexes text code answer m a x → Unhexes text code answer n b y
+    → (m ≡ n) × (a ≡ b) × (x ≡ y)
+unhexes-unique (unfit-answer p) (unfit-answer q) = (refl, refl, refl)
+unhexes-unique (unfit-answer p) (unhexed q o) = absurd (p q)
+unhexes-unique (unhexed p o) (unfit-answer q) = absurd (q p)
+unhexes-unique (unhexed p first) (unhexed q second) =
+    let (number, value, code) = outcome-unique first second in
+    (number, code, ap (λ (v : ℕ). wordOf v ∷ []) value)
 
 -- so many elements from a place on, one by one
 abbrev pub listed : ℕ → ℕ → List ℕ → List ℕ

@@ -7,10 +7,11 @@ use lib.ListN.{length, drop, getD, set}
 use lib.Seq.{sets, sets-eq, drop-length}
 use borrow.Author.Tests.{eq-eqb, ne-eqb}
 use Rattle.blockcheck.specs.Blocks.{Judged}
+use Rattle.hex.specs.Files.{Outcome}
 use Rattle.run.specs.declared.Lent.{Lent}
 use Rattle.run.specs.declared.Ran.{Ran}
 use Rattle.run.specs.Runs.{Runs, runOf}
-use Rattle.sangolid.specs.Interface.{misfit, lentOf, stateOf, called, callOf, Calls, Checks, judged}
+use Rattle.sangolid.specs.Interface.{misfit, lentOf, stateOf, called, callOf, Calls, Checks, judged, wordOf, Unhexes, unhexed}
 use Rattle.sangolid.proofs.Bounds.{steps-fit}
 
 -- an area as long as what is written over it holds nothing else
@@ -64,9 +65,14 @@ pub ran-fits : (code : List ℕ) (l : Lent) (d : List ℕ) (budget : ℕ) {r : R
     → r .steps < 2 ^ 32
 ran-fits code l d budget runs = rw (runs .is) (steps-fit code l d budget)
 
--- the answer is written whole
+-- a check's answer is written whole
 pub checks-judged : {code marks answer after : List ℕ} {n number v value : ℕ} → length answer ≡ 1 → Judged code marks number value after
     → n ≡ number
     → v ≡ value
     → Checks code marks answer n after (set answer 0 v)
 checks-judged {answer} {v} long judging numbered worth = rw (sets-whole (v ∷ []) answer long, numbered, worth) (judged long judging)
+
+-- a hex file's answer is written whole
+pub unhexes-read : {text code answer after : List ℕ} {number value v : ℕ} → length answer ≡ 1 → Outcome text code number value after → v ≡ wordOf value
+    → Unhexes text code answer number after (set answer 0 v)
+unhexes-read {answer} {v} long outcome worth = rw (sets-whole (v ∷ []) answer long, worth) (unhexed long outcome)

@@ -1,14 +1,15 @@
--- The C interface: what a call of a run or a block check returns, and what it leaves in the areas lent to it. Assumes nothing.
+-- The C interface: what a call of a run, a block check or the reading of a hex file returns, and what it leaves in the areas lent to it. Assumes nothing.
 use mathlib.Core.Path.{_≡_}
 use mathlib.Core.Bool.{cond}
 use mathlib.Core.List.{List, [], _∷_}
-use Prim.Native.Nat.{ℕ}
+use Prim.Native.Nat.{ℕ, min}
 use lib.Dec.{eqb}
 use lib.ListN.{length, getD}
 use Rattle.run.specs.declared.Lent.{Lent}
 use Rattle.run.specs.declared.Ran.{Ran}
 use Rattle.run.specs.Runs.{HandedBack, runOf}
 use Rattle.blockcheck.specs.Blocks.{Judged}
+use Rattle.hex.specs.Files.{Outcome}
 
 -- the number for a state or an answer area of another length
 unfoldable pub misfit : ℕ
@@ -67,3 +68,13 @@ pub data Checks (code marks answer : List ℕ) : ℕ → List ℕ → List ℕ �
   unfit : (length answer ≡ 1 → ⊥) → Checks code marks answer misfit marks answer
   judged : length answer ≡ 1 → {number value : ℕ} {after : List ℕ} → Judged code marks number value after
       → Checks code marks answer number after (value ∷ [])
+
+-- a code's length or a line as a word; FFFFFFFFh stands for that line and all after it
+unfoldable pub wordOf : ℕ → ℕ
+wordOf n = min n 0xFFFF_FFFF
+
+-- the number that reading a hex file returns, the code area and the answer after: with an answer area of one word the file is read; any other changes nothing
+pub data Unhexes (text code answer : List ℕ) : ℕ → List ℕ → List ℕ → Type 0 where
+  unfit-answer : (length answer ≡ 1 → ⊥) → Unhexes text code answer misfit code answer
+  unhexed : length answer ≡ 1 → {number value : ℕ} {after : List ℕ} → Outcome text code number value after
+      → Unhexes text code answer number after (wordOf value ∷ [])

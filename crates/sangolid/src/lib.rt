@@ -1,5 +1,6 @@
-// The C interface: a run and a block check over areas that the caller lends.
+// The C interface: a run, a block check and the reading of a hex file, over areas that the caller lends.
 use blockcheck::Verdict;
+use hex::Answer;
 use run::Lent;
 use run::Ran;
 ghost use mathlib.Core.Path.{_≡_};
@@ -8,7 +9,7 @@ ghost use Prim.Native.Nat.{_+_, _<_, _≤_, _^_};
 ghost use lib.ListN.{length};
 ghost use lib.Seq.{sets};
 ghost use Rattle.blockcheck.specs.Blocks.{numberOf, valueOf};
-ghost use Rattle.sangolid.specs.Interface.{lentOf, stateOf, callOf, Calls, Checks};
+ghost use Rattle.sangolid.specs.Interface.{lentOf, stateOf, callOf, Calls, Checks, wordOf, Unhexes};
 
 // The machine in the first ten words of the state.
 fn lent(state: &[u32]) -> Lent
@@ -109,4 +110,34 @@ pub extern "C" fn sangolid_check(code: &[u8], marks: &mut [u8], answer: &mut [u3
     let v = blockcheck::check(code, marks);
     answer[0] = value_of(v);
     number_of(v)
+}
+
+// A code's length or a line as a word; one that no word holds is FFFFFFFFh.
+fn word_of(n: usize) -> u32
+    ensures { λ r. ⌜ r ≡ wordOf n ⌝ }
+{
+    if n < 0xFFFF_FFFF {
+        return n as u32;
+    }
+    0xFFFF_FFFF
+}
+
+// Reads a hex file into the code area, and puts the code's length or the line into the answer.
+#[no_mangle]
+pub extern "C" fn sangolid_hex(text: &[u8], code: &mut [u8], answer: &mut [u32]) -> u32
+    ensures { λ r. ⌜ Unhexes (now (text .entry)) (now (code .entry)) (now (answer .entry)) r (now (code .exit)) (now (answer .exit)) ⌝ }
+{
+    if answer.len() != 1 {
+        return 90;
+    }
+    match hex::read(text, code) {
+        Answer::Code(length) => {
+            answer[0] = word_of(length);
+            0
+        }
+        Answer::Refused(number, line) => {
+            answer[0] = word_of(line);
+            number
+        }
+    }
 }
