@@ -1,0 +1,2 @@
+-- The definitions of `unhex_text`. Assumes nothing.
+pub mod Unhexing
