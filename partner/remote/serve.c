@@ -7,9 +7,9 @@
 
 #include "sangolid.h"
 
-/* What precedes a call's areas: the words (state or answer), the code, the bytes (data or marks). */
+/* What precedes a call's areas: the words (state or answer), the code or text, the bytes (data, marks or code). */
 struct request {
-    uint32_t function; /* 0: sangolid_run, 1: sangolid_check */
+    uint32_t function; /* 0: sangolid_run, 1: sangolid_check, 2: sangolid_hex */
     uint32_t words_len;
     uint32_t code_len;
     uint32_t bytes_len;
@@ -28,15 +28,25 @@ static void *area(size_t size) {
     return place;
 }
 
+/* Makes one call on its areas, and gives back its number. */
+static uint32_t answer(const struct request *request, uint32_t *words, const uint8_t *code, uint8_t *bytes) {
+    switch (request->function) {
+    case 0:
+        return sangolid_run(words, request->words_len, code, request->code_len, bytes, request->bytes_len,
+                            request->budget);
+    case 1:
+        return sangolid_check(code, request->code_len, bytes, request->bytes_len, words, request->words_len);
+    default:
+        return sangolid_hex(code, request->code_len, bytes, request->bytes_len, words, request->words_len);
+    }
+}
+
 /* Makes one call: reads its areas, writes its number, words and bytes. */
 static void call(const struct request *request) {
     uint32_t *words = area(request->words_len * sizeof *words);
     uint8_t *code = area(request->code_len);
     uint8_t *bytes = area(request->bytes_len);
-    uint32_t number = request->function == 0 ? sangolid_run(words, request->words_len, code, request->code_len, bytes,
-                                                            request->bytes_len, request->budget)
-                                             : sangolid_check(code, request->code_len, bytes, request->bytes_len,
-                                                              words, request->words_len);
+    uint32_t number = answer(request, words, code, bytes);
     need(fwrite(&number, sizeof number, 1, stdout) == 1);
     need(fwrite(words, sizeof *words, request->words_len, stdout) == request->words_len);
     need(fwrite(bytes, 1, request->bytes_len, stdout) == request->bytes_len);

@@ -1,6 +1,7 @@
-//! Random cases: single instructions, whole blocks, refused inputs, broken code and block checks.
+//! Random cases: single instructions, whole blocks, refused inputs, broken code, block checks and hex files.
 
 mod bits;
+mod hex;
 mod rooms;
 
 use std::collections::BTreeMap;
@@ -31,6 +32,14 @@ pub struct CheckCase {
     pub marks: Vec<u8>,
 }
 
+/// Inputs of one reading of a hex file.
+#[derive(Clone, Debug)]
+pub struct HexCase {
+    pub text: Vec<u8>,
+    /// The lent code area.
+    pub area: Vec<u8>,
+}
+
 /// One random case.
 #[derive(Clone, Debug)]
 pub enum Case {
@@ -42,6 +51,9 @@ pub enum Case {
     StateLength(RunCase, usize),
     /// A check whose answer area has so many words, not 1.
     AnswerLength(CheckCase, usize),
+    Hex(HexCase),
+    /// A reading whose answer area has so many words, not 1.
+    HexAnswerLength(HexCase, usize),
 }
 
 /// One instruction form with all byte strings, up to the byte after the opcode, that begin it.
@@ -53,9 +65,11 @@ struct Form {
 /// How big the cases are.
 #[derive(Clone, Copy, PartialEq, Eq)]
 pub enum Size {
-    /// Code up to 16 bytes, data up to 64, budgets up to 12; longer only if refused for it, and then all 0.
+    /// Code up to 16 bytes, data up to 64, budgets up to 12; longer only if refused for it, and then all 0. Hex files
+    /// up to 220 characters, with areas that hold only zeros from the 65th byte on.
     Small,
-    /// Data up to a few hundred bytes, blocks of many instructions, code that goes round in more than 64 bytes.
+    /// Data up to a few hundred bytes, blocks of many instructions, code that goes round in more than 64 bytes, hex
+    /// files that fill the whole block.
     Large,
 }
 
@@ -65,6 +79,7 @@ pub struct Generator {
     forms: Vec<Form>,
     size: Size,
     made: usize,
+    hexes: usize,
 }
 
 /// Edge values of 32 bits; their low parts are edges of 8 and 16 bits.
@@ -123,7 +138,7 @@ fn all_forms() -> Vec<Form> {
 impl Generator {
     /// A source that gives the same cases for the same seed and size.
     pub fn new(seed: u64, size: Size) -> Self {
-        Generator { random: Random::new(seed), forms: all_forms(), size, made: 0 }
+        Generator { random: Random::new(seed), forms: all_forms(), size, made: 0, hexes: 0 }
     }
 
     /// The names of all instruction forms.
@@ -131,9 +146,11 @@ impl Generator {
         self.forms.iter().map(|form| form.name.as_str())
     }
 
-    /// The next case; single instructions go through all forms in turn.
+    /// The next case, at least one in seven a hex file; single instructions go through all forms in turn.
     pub fn next_case(&mut self) -> Case {
-        match self.random.below(1000) {
+        // Vectors have steps for each form beside these cases, so among these more are hex files.
+        let kinds = if self.size == Size::Small { 1280 } else { 1180 };
+        match self.random.below(kinds) {
             0..=589 => Case::Run(self.single()),
             590..=649 => Case::Run(self.bits()),
             700..=719 if self.size == Size::Large => Case::Run(self.rooms()),
@@ -154,10 +171,15 @@ impl Generator {
                 let length = self.random.pick(&[0, 1, 10, 11, 13, 24]);
                 Case::StateLength(self.single(), length)
             }
-            _ => {
+            995..=999 => {
                 let length = self.random.pick(&[0, 2, 3]);
                 Case::AnswerLength(self.check_whole(), length)
             }
+            1000..=1004 => {
+                let length = self.random.pick(&[0, 2, 3]);
+                Case::HexAnswerLength(self.hex(), length)
+            }
+            _ => Case::Hex(self.hex()),
         }
     }
 

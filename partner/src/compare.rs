@@ -1,15 +1,16 @@
 //! Comparison with another program behind Sangolid's C interface.
 
-use crate::cases::{Case, CheckCase, Generator, RunCase, Size};
+use crate::cases::{Case, CheckCase, Generator, HexCase, RunCase, Size};
 use crate::check::{check, Verdict};
 use crate::coverage::Coverage;
+use crate::hex::{read, Reading};
 use crate::machine::{Machine, CODE_BASE};
 use crate::run::{run, run_observed, Outcome};
 use crate::text::{describe, hex, machine_text};
 
 /// Words of the state area: eight registers, EIP, flags, steps, address.
 pub const STATE_WORDS: usize = 12;
-/// Words of a check's answer area.
+/// Words of a check's or a reading's answer area.
 pub const ANSWER_WORDS: usize = 1;
 /// Number for a state or answer area of another length.
 pub const WRONG_AREA: u32 = 90;
@@ -22,6 +23,8 @@ pub trait Other {
     fn run(&self, state: &mut [u32], code: &[u8], area: &mut [u8], budget: u64) -> u32;
     /// `sangolid_check`.
     fn check(&self, code: &[u8], marks: &mut [u8], answer: &mut [u32]) -> u32;
+    /// `sangolid_hex`.
+    fn hex(&self, text: &[u8], code: &mut [u8], answer: &mut [u32]) -> u32;
 }
 
 /// How two outcomes differ.
@@ -83,6 +86,14 @@ pub(crate) fn other_check(case: &CheckCase, other: &dyn Other) -> (Verdict, Vec<
     (Verdict { number, answer: answer[0] }, marks)
 }
 
+/// The other program's reading and area.
+pub(crate) fn other_hex(case: &HexCase, other: &dyn Other) -> (Reading, Vec<u8>) {
+    let mut area = case.area.clone();
+    let mut answer = [0xA5A5_A5A5; ANSWER_WORDS];
+    let number = other.hex(&case.text, &mut area, &mut answer);
+    (Reading { number, answer: answer[0] }, area)
+}
+
 /// How the other program's result differs from the partner's.
 fn difference(partner: &RunResult, other: &RunResult) -> Option<Difference> {
     let masked = |result: &RunResult| {
@@ -135,6 +146,24 @@ fn run_report(case: &RunCase, kind: Difference, other: &dyn Other) -> String {
         machine_text(&case.machine),
         result_text(&ours),
         result_text(&other_run(case, other))
+    )
+}
+
+/// The text, both readings, and the first byte in which the areas differ.
+fn hex_report(case: &HexCase, ours: &(Reading, Vec<u8>), theirs: &(Reading, Vec<u8>)) -> String {
+    let byte = match (0..case.area.len()).find(|&at| ours.1[at] != theirs.1[at]) {
+        None => "the areas are alike".to_string(),
+        Some(at) => format!(
+            "first at offset {at:X}: {:02X} before, ours {:02X}, other {:02X}",
+            case.area[at], ours.1[at], theirs.1[at]
+        ),
+    };
+    format!(
+        "disagreement in a hex file\n  text  {}\n  area of {} bytes, {byte}\n  ours  {:?}\n  other {:?}",
+        case.text.escape_ascii(),
+        case.area.len(),
+        ours.0,
+        theirs.0
     )
 }
 
@@ -196,6 +225,17 @@ impl<'a> Comparison<'a> {
         }
     }
 
+    /// Compares one hex file.
+    fn hex(&mut self, case: &HexCase) {
+        let mut area = case.area.clone();
+        let ours = (read(&case.text, &mut area), area);
+        self.coverage.read(&case.text, case.area.len());
+        let theirs = other_hex(case, self.other);
+        if ours != theirs {
+            self.disagree(Difference::Defined, || hex_report(case, &ours, &theirs));
+        }
+    }
+
     /// Compares one case.
     pub fn case(&mut self, case: &Case) {
         match case {
@@ -232,6 +272,17 @@ impl<'a> Comparison<'a> {
                 if number != WRONG_AREA || answer != given || marks != case.marks {
                     self.disagree(Difference::Defined, || {
                         format!("answer area of {length} words: number {number}, back {answer:X?}")
+                    });
+                }
+            }
+            Case::Hex(case) => self.hex(case),
+            Case::HexAnswerLength(case, length) => {
+                let given = vec![0xA5A5_A5A5; *length];
+                let (mut answer, mut area) = (given.clone(), case.area.clone());
+                let number = self.other.hex(&case.text, &mut area, &mut answer);
+                if number != WRONG_AREA || answer != given || area != case.area {
+                    self.disagree(Difference::Defined, || {
+                        format!("answer area of {length} words for a hex file: number {number}, back {answer:X?}")
                     });
                 }
             }

@@ -1,12 +1,14 @@
 //! Counts of what a set of cases came to.
 
 mod bits;
+mod hex;
 mod undefined;
 
 use std::collections::BTreeMap;
 use std::fmt::{self, Display, Formatter};
 
 use self::bits::Bits;
+use self::hex::Hex;
 use self::undefined::Undefined;
 use crate::decode::{Instruction, Operand, Operation, PREFIXES};
 use crate::machine::{Machine, Width, CODE_BASE, ECX, HOME, MAX_BYTES};
@@ -47,7 +49,7 @@ fn masked(count: Operand, before: &Machine) -> u32 {
     }
 }
 
-/// Finished steps, or runs, by the shapes of one group.
+/// Finished steps, runs or hex files by the shapes of one group.
 struct Group {
     title: String,
     shapes: Vec<(String, u64)>,
@@ -134,6 +136,7 @@ pub struct Coverage {
     forms: BTreeMap<String, Count>,
     runs: BTreeMap<u32, u64>,
     checks: BTreeMap<u32, u64>,
+    readings: BTreeMap<u32, u64>,
     course: Course,
     /// The last run ended inside a repeated instruction.
     inside: bool,
@@ -147,6 +150,7 @@ pub struct Coverage {
     loops: Group,
     starts: Group,
     ends: Group,
+    hex: Hex,
 }
 
 /// The ModR/M byte and what follows, if it gave memory that was used; LEA finishes with any address.
@@ -178,6 +182,7 @@ impl Coverage {
             forms: form_names.map(|name| (name.to_string(), Count::default())).collect(),
             runs: zero(&[0, 1, 2, 3, 4, 5, 6, 7, 10, 11, 12, 13]),
             checks: zero(&[0, 10, 14, 21, 22, 23]),
+            readings: zero(&[0, 30, 31, 32, 33, 34, 35, 36, 37]),
             course: Course::default(),
             inside: false,
             resumed: 0,
@@ -190,6 +195,7 @@ impl Coverage {
             loops: runs("ways of going round", &LOOPS),
             starts: runs("starts outside the code", &OUTSIDE),
             ends: runs("ways out of the code", &OUTSIDE),
+            hex: Hex::new(),
         }
     }
 
@@ -262,26 +268,48 @@ impl Coverage {
         *self.checks.entry(number).or_default() += 1;
     }
 
+    /// Counts a hex file read with an area of this length.
+    pub fn read(&mut self, text: &[u8], length: usize) {
+        let number = self.hex.read(text, length);
+        *self.readings.entry(number).or_default() += 1;
+    }
+
+    /// Whether the hex file, read with an area of this length, has a shape that never came.
+    pub fn is_new_hex(&self, text: &[u8], length: usize) -> bool {
+        self.hex.is_new(text, length)
+    }
+
+    /// Whether every shape of hex files came that a vector line has room for.
+    pub fn has_all_hex(&self) -> bool {
+        self.hex.has_all_short()
+    }
+
     /// The two counts of courses with their names.
     fn courses(&self) -> [(u64, &'static str); 2] {
         [(self.resumed, "resumed inside a repeated instruction"), (self.jumped, "block with a jump taken")]
+    }
+
+    /// Each kind of case with its numbers and how often they came.
+    fn numbers(&self) -> impl Iterator<Item = (&'static str, u32, u64)> + '_ {
+        [("run", &self.runs), ("check", &self.checks), ("hex", &self.readings)]
+            .into_iter()
+            .flat_map(|(kind, counts)| counts.iter().map(move |(&number, &count)| (kind, number, count)))
     }
 
     /// The groups of shapes.
     fn groups(&self) -> impl Iterator<Item = &Group> {
         let runs = [&self.loops, &self.starts, &self.ends];
         let steps = [&self.modrm].into_iter().chain(&self.sib).chain([&self.prefixes]);
-        steps.chain(self.bits.groups()).chain(self.undefined.groups()).chain(runs)
+        steps.chain(self.bits.groups()).chain(self.undefined.groups()).chain(runs).chain(self.hex.groups())
     }
 
     /// Forms that never finished a step, and numbers and courses that never came.
     pub fn holes(&self) -> Vec<String> {
         let forms = self.forms.iter().filter(|(_, count)| count.finished == 0).map(|(name, _)| name.clone());
-        let runs = self.runs.iter().filter(|(_, &count)| count == 0).map(|(number, _)| format!("run number {number}"));
-        let checks =
-            self.checks.iter().filter(|(_, &count)| count == 0).map(|(number, _)| format!("check number {number}"));
+        let numbers = self.numbers().filter(|(_, _, count)| *count == 0);
+        let numbers = numbers.map(|(kind, number, _)| format!("{kind} number {number}"));
         let courses = self.courses().into_iter().filter(|(count, _)| *count == 0).map(|(_, name)| name.to_string());
-        forms.chain(runs).chain(checks).chain(courses).collect()
+        forms.chain(numbers).chain(courses).collect()
     }
 }
 
@@ -291,11 +319,8 @@ impl Display for Coverage {
         for (name, count) in &self.forms {
             writeln!(out, "{}\t{}\t{name}", count.finished, count.stopped)?;
         }
-        for (number, count) in &self.runs {
-            writeln!(out, "{count}\t\trun number {number}")?;
-        }
-        for (number, count) in &self.checks {
-            writeln!(out, "{count}\t\tcheck number {number}")?;
+        for (kind, number, count) in self.numbers() {
+            writeln!(out, "{count}\t\t{kind} number {number}")?;
         }
         for (count, name) in self.courses() {
             writeln!(out, "{count}\t\t{name}")?;

@@ -6,6 +6,7 @@ pub mod check;
 pub mod compare;
 pub mod coverage;
 pub mod decode;
+pub mod hex;
 pub mod machine;
 pub mod random;
 pub mod remote;

@@ -9,6 +9,7 @@ use crate::compare::Other;
 /// The functions, by the numbers that `remote/serve.c` gives them.
 const RUN: u32 = 0;
 const CHECK: u32 = 1;
+const HEX: u32 = 2;
 
 /// The program `remote/serve.c`, running.
 pub struct Remote {
@@ -73,5 +74,9 @@ impl Other for Remote {
 
     fn check(&self, code: &[u8], marks: &mut [u8], answer: &mut [u32]) -> u32 {
         self.call(CHECK, answer, code, marks, 0)
+    }
+
+    fn hex(&self, text: &[u8], code: &mut [u8], answer: &mut [u32]) -> u32 {
+        self.call(HEX, answer, text, code, 0)
     }
 }

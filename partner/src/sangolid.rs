@@ -20,6 +20,14 @@ extern "C" {
         answer: *mut u32,
         answer_len: usize,
     ) -> u32;
+    fn sangolid_hex(
+        text: *const u8,
+        text_len: usize,
+        code: *mut u8,
+        code_len: usize,
+        answer: *mut u32,
+        answer_len: usize,
+    ) -> u32;
 }
 
 /// The linked library.
@@ -52,6 +60,13 @@ impl Other for Sangolid {
                 answer.as_mut_ptr(),
                 answer.len(),
             )
+        }
+    }
+
+    fn hex(&self, text: &[u8], code: &mut [u8], answer: &mut [u32]) -> u32 {
+        // Each pointer and length describe one whole slice.
+        unsafe {
+            sangolid_hex(text.as_ptr(), text.len(), code.as_mut_ptr(), code.len(), answer.as_mut_ptr(), answer.len())
         }
     }
 }

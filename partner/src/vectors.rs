@@ -2,10 +2,11 @@
 
 use std::io::{self, Write};
 
-use crate::cases::{Case, CheckCase, Generator, RunCase, Size};
+use crate::cases::{Case, CheckCase, Generator, HexCase, RunCase, Size};
 use crate::check::check;
-use crate::compare::{other_check, other_run, Other};
+use crate::compare::{other_check, other_hex, other_run, Other};
 use crate::coverage::Coverage;
+use crate::hex::read;
 use crate::machine::Machine;
 use crate::run::{run_observed, Outcome};
 use crate::text::hex;
@@ -29,7 +30,7 @@ fn machine_columns(machine: &Machine) -> String {
     words.join("\t")
 }
 
-/// Ten columns that a check doesn't use.
+/// Ten columns that a check or a hex file doesn't use.
 const NO_MACHINE: &str = "-\t-\t-\t-\t-\t-\t-\t-\t-\t-";
 
 /// Where lines go, whose results they hold (none: the partner's own), and what they cover.
@@ -91,6 +92,28 @@ fn write_check(lines: &mut Lines<impl Write>, case: &CheckCase) -> io::Result<()
     )
 }
 
+/// Writes the line of a hex file: the text stands as the code, its length of code or line in the address column.
+fn write_hex(lines: &mut Lines<impl Write>, case: &HexCase) -> io::Result<()> {
+    let Lines { out, other, coverage } = lines;
+    let mut area = case.area.clone();
+    let mut reading = read(&case.text, &mut area);
+    coverage.read(&case.text, case.area.len());
+    if let Some(other) = other {
+        (reading, area) = other_hex(case, *other);
+    }
+    writeln!(
+        out,
+        "hex\t{NO_MACHINE}\t-\t{:X}\t{}\t{:X}\t{}\t{:X}\t-\t{:X}\t{NO_MACHINE}\t-\t{}",
+        case.text.len(),
+        sparse(&case.text),
+        case.area.len(),
+        sparse(&case.area),
+        reading.number,
+        reading.answer,
+        sparse(&area)
+    )
+}
+
 /// Whether the case's first step has a shape of M-100's or M-101's groups that never came.
 fn adds(case: &RunCase, coverage: &Coverage) -> bool {
     let mut new = false;
@@ -116,9 +139,22 @@ fn write_missing(
     Ok(written)
 }
 
+/// Writes at most so many hex files with shapes that never came, until none is missing, and gives back how many.
+fn write_missing_hex(lines: &mut Lines<impl Write>, most: u64, generator: &mut Generator) -> io::Result<u64> {
+    let mut written = 0;
+    while written < most && !lines.coverage.has_all_hex() {
+        let case = generator.hex();
+        if lines.coverage.is_new_hex(&case.text, case.area.len()) {
+            write_hex(lines, &case)?;
+            written += 1;
+        }
+    }
+    Ok(written)
+}
+
 /// Writes the header and so many lines, first one finished step of each form, then steps for the shapes of M-100's and
-/// M-101's groups still missing, and gives back what they cover. With another program the results are its own, but for
-/// the undefined flags.
+/// M-101's groups still missing, then hex files for the shapes of M-102's, then random cases, and gives back what they
+/// cover. With another program the results are its own, but for the undefined flags.
 pub fn write_vectors(out: &mut impl Write, other: Option<&dyn Other>, seed: u64, count: u64) -> io::Result<Coverage> {
     let mut generator = Generator::new(seed, Size::Small);
     let names: Vec<String> = generator.form_names().map(str::to_string).collect();
@@ -131,6 +167,7 @@ pub fn write_vectors(out: &mut impl Write, other: Option<&dyn Other>, seed: u64,
     }
     written += write_missing(&mut lines, count - written, Coverage::has_all_bits, || generator.bits())?;
     written += write_missing(&mut lines, count - written, Coverage::has_all_undefined, || generator.single())?;
+    written += write_missing_hex(&mut lines, count - written, &mut generator)?;
     while written < count {
         match generator.next_case() {
             Case::Run(case) => {
@@ -150,8 +187,12 @@ pub fn write_vectors(out: &mut impl Write, other: Option<&dyn Other>, seed: u64,
                 write_check(&mut lines, &case)?;
                 written += 1;
             }
-            // The C areas' lengths are no part of a run or check.
-            Case::StateLength(..) | Case::AnswerLength(..) => {}
+            Case::Hex(case) => {
+                write_hex(&mut lines, &case)?;
+                written += 1;
+            }
+            // The C areas' lengths are no part of a run, check or reading.
+            Case::StateLength(..) | Case::AnswerLength(..) | Case::HexAnswerLength(..) => {}
         }
     }
     Ok(lines.coverage)

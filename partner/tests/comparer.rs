@@ -2,6 +2,7 @@
 
 use partner::check::check;
 use partner::compare::{compare, Other, ANSWER_WORDS, STATE_WORDS, WRONG_AREA};
+use partner::hex::read;
 use partner::machine::{Machine, AF};
 use partner::run::run;
 
@@ -22,6 +23,12 @@ enum Fault {
     AreaLength,
     /// Leaves a mark at the first byte of refused code.
     Marks,
+    /// Takes wrong answer lengths for hex files.
+    HexAnswer,
+    /// Changes the last byte of the area of a refused hex file.
+    HexArea,
+    /// Gives a line with number 37.
+    HexLine,
 }
 
 impl Other for Mirror {
@@ -54,6 +61,18 @@ impl Other for Mirror {
         }
         verdict.number
     }
+
+    fn hex(&self, text: &[u8], code: &mut [u8], answer: &mut [u32]) -> u32 {
+        if answer.len() != ANSWER_WORDS {
+            return if self.fault == Fault::HexAnswer { 0 } else { WRONG_AREA };
+        }
+        let reading = read(text, code);
+        answer[0] = reading.answer + u32::from(self.fault == Fault::HexLine && reading.number == 37);
+        if let (Fault::HexArea, Some(byte), 1..) = (&self.fault, code.last_mut(), reading.number) {
+            *byte ^= 1;
+        }
+        reading.number
+    }
 }
 
 /// Defined and policy disagreements beside a mirror with the fault.
@@ -71,7 +90,8 @@ fn agreement_is_found() {
     assert_eq!((comparison.defined, comparison.policy), (0, 0));
     assert_eq!(comparison.coverage.holes(), Vec::<String>::new());
     let coverage = comparison.coverage;
-    assert!(coverage.has_all_bits() && coverage.has_all_undefined(), "{coverage}");
+    assert!(coverage.has_all_bits() && coverage.has_all_undefined() && coverage.has_all_hex(), "{coverage}");
+    assert!(coverage.to_string().contains("\n4 of 4 hex files too long for a vector line, "), "{coverage}");
 }
 
 #[test]
@@ -80,4 +100,7 @@ fn every_fault_is_found() {
     assert!(matches!(disagreements(Fault::Steps), (1.., 0)));
     assert!(matches!(disagreements(Fault::AreaLength), (1.., 0)));
     assert!(matches!(disagreements(Fault::Marks), (1.., 0)));
+    assert!(matches!(disagreements(Fault::HexAnswer), (1.., 0)));
+    assert!(matches!(disagreements(Fault::HexArea), (1.., 0)));
+    assert!(matches!(disagreements(Fault::HexLine), (1.., 0)));
 }

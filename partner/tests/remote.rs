@@ -21,6 +21,12 @@ uint32_t sangolid_check(const uint8_t *code, size_t code_len, uint8_t *marks, si
     for (size_t i = 0; i < answer_len; i++) answer[i] = (uint32_t)(code_len + marks_len);
     return 0xFFFFFFFE;
 }
+uint32_t sangolid_hex(const uint8_t *text, size_t text_len, uint8_t *code, size_t code_len, uint32_t *answer,
+                      size_t answer_len) {
+    for (size_t i = 0; i < code_len; i++) code[i] -= text[text_len - 1];
+    for (size_t i = 0; i < answer_len; i++) answer[i] += (uint32_t)(text_len - code_len);
+    return 0xFFFFFFFD;
+}
 ";
 
 /// The program with those functions, compiled for this machine.
@@ -50,8 +56,13 @@ fn areas_go_there_and_back() {
     assert_eq!(echo.check(&[5, 6], &mut marks, &mut answer), 0xFFFF_FFFE);
     assert_eq!((marks, answer), (vec![7, 8, 5], [5]));
 
+    let (mut code, mut answer) = (vec![7, 8], [1, 2]);
+    assert_eq!(echo.hex(b"123456\x08", &mut code, &mut answer), 0xFFFF_FFFD);
+    assert_eq!((code, answer), (vec![255, 0], [6, 7]));
+
     assert_eq!(echo.run(&mut [], &[], &mut [], 9), 9);
     assert_eq!(echo.check(&[], &mut [], &mut []), 0xFFFF_FFFE);
+    assert_eq!(echo.hex(&[], &mut [], &mut []), 0xFFFF_FFFD);
 }
 
 #[test]

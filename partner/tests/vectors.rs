@@ -7,7 +7,7 @@ fn lines_have_the_header_s_columns_and_cover_everything() {
     let mut out = Vec::new();
     let coverage = write_vectors(&mut out, None, 1, 4000).expect("writing to memory succeeds");
     assert_eq!(coverage.holes(), Vec::<String>::new());
-    assert!(coverage.has_all_bits() && coverage.has_all_undefined(), "{coverage}");
+    assert!(coverage.has_all_bits() && coverage.has_all_undefined() && coverage.has_all_hex(), "{coverage}");
     let text = String::from_utf8(out).expect("the lines are text");
     let columns = HEADER.split('\t').count();
     assert_eq!(text.lines().count(), 4001);
@@ -16,4 +16,26 @@ fn lines_have_the_header_s_columns_and_cover_everything() {
         assert!(line.split('\t').all(|field| !field.is_empty()));
     }
     assert!(text.len() < 1_000_000);
+}
+
+#[test]
+fn hex_files_are_about_one_line_in_six_and_give_every_number() {
+    let mut out = Vec::new();
+    write_vectors(&mut out, None, 1999, 3000).expect("writing to memory succeeds");
+    let text = String::from_utf8(out).expect("the lines are text");
+    assert!(text.lines().all(|line| line.len() < 1000));
+    let files: Vec<Vec<&str>> =
+        text.lines().map(|line| line.split('\t').collect()).filter(|fields: &Vec<&str>| fields[0] == "hex").collect();
+    assert!((430..=600).contains(&files.len()), "{}", files.len());
+    for number in [0, 30, 31, 32, 33, 34, 35, 36, 37] {
+        assert!(files.iter().any(|fields| fields[16] == format!("{number:X}")), "{number}");
+    }
+    for end in ["0D0A", "0A"] {
+        let accepted = |fields: &&Vec<&str>| fields[16] == "0";
+        assert!(files.iter().filter(accepted).any(|fields| fields[13].ends_with(end)));
+    }
+    for fields in files {
+        let unused = (1..12).chain([17]).chain(19..30);
+        assert!(unused.into_iter().all(|field| fields[field] == "-"), "{fields:?}");
+    }
 }

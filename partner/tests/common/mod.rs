@@ -2,6 +2,7 @@
 
 use partner::check::check;
 use partner::compare::{Other, ANSWER_WORDS, STATE_WORDS, WRONG_AREA};
+use partner::hex::read;
 use partner::machine::{Machine, MAX_BUDGET};
 use partner::run::run;
 
@@ -36,5 +37,14 @@ impl<F: Fn(Machine, &[u8], &mut [u8], u64) -> Ended> Other for Program<F> {
         let verdict = check(code, marks);
         answer[0] = verdict.answer;
         verdict.number
+    }
+
+    fn hex(&self, text: &[u8], code: &mut [u8], answer: &mut [u32]) -> u32 {
+        if answer.len() != ANSWER_WORDS {
+            return WRONG_AREA;
+        }
+        let reading = read(text, code);
+        answer[0] = reading.answer;
+        reading.number
     }
 }
