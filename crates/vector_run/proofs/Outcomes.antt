@@ -4,11 +4,12 @@ use mathlib.Core.Bool.{Bool, true, false, cond, true≢false}
 use mathlib.Core.List.{List, [], _∷_}
 use Prim.Native.Nat.{ℕ}
 use native.Mathlib.Omega.{arith}
-use Rattle.sangolid.proofs.Outcomes.{checks-unique}
+use Rattle.sangolid.proofs.Outcomes.{checks-unique, unhexes-unique}
 use Rattle.vector_run.specs.declared.judging.Finding.{Finding}
 use Rattle.vector_run.specs.declared.judging.Finding.the-variants.{Same, DiffersIn}
+use Rattle.vector_run.specs.declared.judging.Kind.{Kind}
 use Rattle.vector_run.specs.declared.tally.Tally.{Tally}
-use Rattle.vector_run.specs.Findings.{Told, agrees, Agree, fieldFor, firstOther, CheckFinds, checked, KindFinds, SizedFinds, no-code, no-area, sized, Finds, of-run, of-check, of-neither}
+use Rattle.vector_run.specs.Findings.{Told, agrees, Agree, fieldFor, firstOther, CheckFinds, checked, HexFinds, unhexed, KindFinds, SizedFinds, no-code, no-area, sized, Finds, of-run, of-check, of-hex, of-none}
 use Rattle.vector_run.specs.Counts.{counted}
 use Rattle.vector_run.specs.Lines.{TakesLine, too-long, the-header, a-case, Takes, no-more, a-byte, a-line}
 
@@ -22,14 +23,21 @@ check-unique (checked p) (checked q) =
     let (number, marks, answer) = checks-unique p q in
     cc
 
--- any two findings of a run or a check over some areas coincide
-kind-unique : (runs : Bool) (line code d : List ℕ) {a b : Finding} → KindFinds runs line code d a → KindFinds runs line code d b → a ≡ b
+-- any two findings of a hex file coincide
+hex-unique : {line text code : List ℕ} {a b : Finding} → HexFinds line text code a → HexFinds line text code b → a ≡ b
+hex-unique (unhexed p) (unhexed q) =
+    let (number, code, answer) = unhexes-unique p q in
+    cc
+
+-- any two findings of a kind over some areas coincide
+kind-unique : (kind : Kind) (line code d : List ℕ) {a b : Finding} → KindFinds kind line code d a → KindFinds kind line code d b → a ≡ b
 unfolding KindFinds
-kind-unique true line code d p q = p ∙ sym q
-kind-unique false line code d p q = check-unique p q
+kind-unique Kind.Run line code d p q = p ∙ sym q
+kind-unique Kind.Check line code d p q = check-unique p q
+kind-unique Kind.Hex line code d p q = hex-unique p q
 
 -- so do two over the areas of its line
-sized-unique : {runs : Bool} {line : List ℕ} {a b : Finding} → SizedFinds runs line a → SizedFinds runs line b → a ≡ b
+sized-unique : {kind : Kind} {line : List ℕ} {a b : Finding} → SizedFinds kind line a → SizedFinds kind line b → a ≡ b
 sized-unique (no-code p) (no-code q) = refl
 sized-unique (no-code p) (no-area q) = refl
 sized-unique (no-code p) (sized q s l) = absurd (clash q p)
@@ -44,13 +52,20 @@ sized-unique (sized p r k) (sized q s l) = kind-unique _ _ _ _ k l
 pub finds-unique : {line : List ℕ} {a b : Finding} → Finds line a → Finds line b → a ≡ b
 finds-unique (of-run p k) (of-run q l) = sized-unique k l
 finds-unique (of-run p k) (of-check q s l) = absurd (clash p q)
-finds-unique (of-run p k) (of-neither q s) = absurd (clash p q)
+finds-unique (of-run p k) (of-hex q s t l) = absurd (clash p q)
+finds-unique (of-run p k) (of-none q s t) = absurd (clash p q)
 finds-unique (of-check p r k) (of-run q l) = absurd (clash q p)
 finds-unique (of-check p r k) (of-check q s l) = sized-unique k l
-finds-unique (of-check p r k) (of-neither q s) = absurd (clash r s)
-finds-unique (of-neither p r) (of-run q l) = absurd (clash q p)
-finds-unique (of-neither p r) (of-check q s l) = absurd (clash s r)
-finds-unique (of-neither p r) (of-neither q s) = refl
+finds-unique (of-check p r k) (of-hex q s t l) = absurd (clash r s)
+finds-unique (of-check p r k) (of-none q s t) = absurd (clash r s)
+finds-unique (of-hex p r h k) (of-run q l) = absurd (clash q p)
+finds-unique (of-hex p r h k) (of-check q s l) = absurd (clash s r)
+finds-unique (of-hex p r h k) (of-hex q s t l) = sized-unique k l
+finds-unique (of-hex p r h k) (of-none q s t) = absurd (clash h t)
+finds-unique (of-none p r h) (of-run q l) = absurd (clash q p)
+finds-unique (of-none p r h) (of-check q s l) = absurd (clash s r)
+finds-unique (of-none p r h) (of-hex q s t l) = absurd (clash t h)
+finds-unique (of-none p r h) (of-none q s t) = refl
 
 -- any two tallies after a line coincide
 pub line-unique : {line : List ℕ} {t a b : Tally} → TakesLine line t a → TakesLine line t b → a ≡ b

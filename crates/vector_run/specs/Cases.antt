@@ -1,4 +1,4 @@
--- What a case's line says: its kind, the state, code and data that it is run with, and the budget. Assumes nothing.
+-- What a case's line says: its kind, the state, code or text and area that it is called with, and the budget. Assumes nothing.
 use mathlib.Core.Bool.{Bool, _&&_}
 use mathlib.Core.List.{List, [], _∷_, _++_}
 use Prim.Native.Nat.{ℕ, zero, suc, _+_, _%_, _^_}
@@ -33,11 +33,11 @@ areaFits line k = leb (numberOf line k) most && leb (length (bytesOf (fieldOf li
 unfoldable pub padTo : List ℕ → ℕ → ℕ → List ℕ
 padTo line k size = padded size (bytesOf (fieldOf line k))
 
--- the code, of the size in field 13
+-- the code, or a hex file's text, of the size in field 13
 unfoldable pub codeOf : List ℕ → List ℕ
 codeOf line = padTo line 14 (numberOf line 13)
 
--- the data or the marks, of the size in field 15
+-- the data, the marks, or a hex file's code area, of the size in field 15
 unfoldable pub areaOf : List ℕ → List ℕ
 areaOf line = padTo line 16 (numberOf line 15)
 
@@ -48,3 +48,7 @@ isRun line = formed (fields line) (ascii "rnnnnnnnnnnwnbnbnwnnnnnnnnnnnnb")
 -- the form of a check's line
 unfoldable pub isCheck : List ℕ → Bool
 isCheck line = formed (fields line) (ascii "c-----------nbnbn-n-----------b")
+
+-- the form of a hex file's line
+unfoldable pub isHex : List ℕ → Bool
+isHex line = formed (fields line) (ascii "h-----------nbnbn-n-----------b")

@@ -5,12 +5,13 @@ use mathlib.Core.List.{List, [], _∷_, _++_, map}
 use Prim.Native.Nat.{ℕ, suc}
 use lib.Dec.{eqb}
 use lib.ListN.{getD}
-use Rattle.sangolid.specs.Interface.{Call, callOf, Checks}
+use Rattle.sangolid.specs.Interface.{Call, callOf, Checks, Unhexes}
 use Rattle.vector_text.specs.Hex.{bytesOf, isHeld}
 use Rattle.vector_text.specs.Fields.{fieldOf}
 use Rattle.vector_run.specs.declared.judging.Finding.{Finding}
+use Rattle.vector_run.specs.declared.judging.Kind.{Kind}
 use Rattle.vector_run.specs.declared.judging.Finding.the-variants.{Same, DiffersIn, Malformed}
-use Rattle.vector_run.specs.Cases.{numberOf, stateBefore, areaFits, codeOf, areaOf, isRun, isCheck}
+use Rattle.vector_run.specs.Cases.{numberOf, stateBefore, areaFits, codeOf, areaOf, isRun, isCheck, isHex}
 
 -- what came out, for a field of the line: a number, or an area
 pub data Told : Type 0 where
@@ -50,9 +51,9 @@ resultsOf number state = number ∷ map (λ (k : ℕ). getD state k 0) (10 ∷ 1
 unfoldable pub ranTold : Call → List Told
 ranTold call = numbersFrom 17 (resultsOf (call .number) (call .state)) ++ (Told.theArea 31 (call .area) ∷ [])
 
--- what a check tells: its number in field 17, the count or offset in field 19, the marks after in field 31
-unfoldable pub checkedTold : ℕ → ℕ → List ℕ → List Told
-checkedTold number value marks = Told.theNumber 17 number ∷ Told.theNumber 19 value ∷ Told.theArea 31 marks ∷ []
+-- what a check or a hex file tells: its number in field 17, the answer in field 19, the marks or the code area after in field 31
+unfoldable pub answerTold : ℕ → ℕ → List ℕ → List Told
+answerTold number value area = Told.theNumber 17 number ∷ Told.theNumber 19 value ∷ Told.theArea 31 area ∷ []
 
 -- the finding of a run over code and data
 unfoldable pub runFinding : List ℕ → List ℕ → List ℕ → Finding
@@ -61,21 +62,28 @@ runFinding line code d = firstOther line (ranTold (callOf (stateBefore line) cod
 -- the finding of a check over code and marks
 pub data CheckFinds (line code marks : List ℕ) : Finding → Type 0 where
   checked : {number value : ℕ} {after : List ℕ} → Checks code marks (0 ∷ []) number after (value ∷ [])
-      → CheckFinds line code marks (firstOther line (checkedTold number value after))
+      → CheckFinds line code marks (firstOther line (answerTold number value after))
 
--- the finding of a run, or of a check
-unfoldable pub KindFinds : Bool → List ℕ → List ℕ → List ℕ → Finding → Type 0
-KindFinds true line code d r = r ≡ runFinding line code d
-KindFinds false line code d r = CheckFinds line code d r
+-- the finding of a hex file read into a code area
+pub data HexFinds (line text code : List ℕ) : Finding → Type 0 where
+  unhexed : {number value : ℕ} {after : List ℕ} → Unhexes text code (0 ∷ []) number after (value ∷ [])
+      → HexFinds line text code (firstOther line (answerTold number value after))
 
--- the finding of a run or a check over the areas of its line; one that does not fit is malformed
-pub data SizedFinds (is-run : Bool) (line : List ℕ) : Finding → Type 0 where
-  no-code : areaFits line 13 ≡ false → SizedFinds is-run line Malformed
-  no-area : areaFits line 15 ≡ false → SizedFinds is-run line Malformed
-  sized : areaFits line 13 ≡ true → areaFits line 15 ≡ true → {r : Finding} → KindFinds is-run line (codeOf line) (areaOf line) r → SizedFinds is-run line r
+-- the finding of a case of a kind
+unfoldable pub KindFinds : Kind → List ℕ → List ℕ → List ℕ → Finding → Type 0
+KindFinds Kind.Run line code d r = r ≡ runFinding line code d
+KindFinds Kind.Check line code d r = CheckFinds line code d r
+KindFinds Kind.Hex line code d r = HexFinds line code d r
 
--- the finding of a line: of a run or of a check, by its form; any other line is malformed
+-- the finding of a case over the areas of its line; one that does not fit is malformed
+pub data SizedFinds (kind : Kind) (line : List ℕ) : Finding → Type 0 where
+  no-code : areaFits line 13 ≡ false → SizedFinds kind line Malformed
+  no-area : areaFits line 15 ≡ false → SizedFinds kind line Malformed
+  sized : areaFits line 13 ≡ true → areaFits line 15 ≡ true → {r : Finding} → KindFinds kind line (codeOf line) (areaOf line) r → SizedFinds kind line r
+
+-- the finding of a line: of a run, a check or a hex file, by its form; any other line is malformed
 pub data Finds (line : List ℕ) : Finding → Type 0 where
-  of-run : isRun line ≡ true → {r : Finding} → SizedFinds true line r → Finds line r
-  of-check : isRun line ≡ false → isCheck line ≡ true → {r : Finding} → SizedFinds false line r → Finds line r
-  of-neither : isRun line ≡ false → isCheck line ≡ false → Finds line Malformed
+  of-run : isRun line ≡ true → {r : Finding} → SizedFinds Kind.Run line r → Finds line r
+  of-check : isRun line ≡ false → isCheck line ≡ true → {r : Finding} → SizedFinds Kind.Check line r → Finds line r
+  of-hex : isRun line ≡ false → isCheck line ≡ false → isHex line ≡ true → {r : Finding} → SizedFinds Kind.Hex line r → Finds line r
+  of-none : isRun line ≡ false → isCheck line ≡ false → isHex line ≡ false → Finds line Malformed

@@ -1,5 +1,6 @@
 // One case: it is run as its line says, and what comes out is compared with what its line says.
 use sangolid::sangolid_check;
+use sangolid::sangolid_hex;
 use sangolid::sangolid_run;
 use vector_text::areas::fill;
 use vector_text::areas::fits;
@@ -13,13 +14,20 @@ ghost use mathlib.Core.List.{[], _∷_, _++_};
 ghost use Prim.Native.Nat.{_<_};
 ghost use lib.ListN.{length};
 ghost use Rattle.vector_run.specs.Cases.{stateBefore, areaFits, padTo};
-ghost use Rattle.vector_run.specs.Findings.{Told, firstOther, numbersFrom, resultsOf, checkedTold, runFinding, CheckFinds, KindFinds, SizedFinds, Finds};
+ghost use Rattle.vector_run.specs.Findings.{Told, firstOther, numbersFrom, resultsOf, answerTold, runFinding, CheckFinds, HexFinds, KindFinds, SizedFinds, Finds};
 
 // What is found of a case: it comes out as its line says, or differs first in the field of a number, or its line is malformed.
 pub enum Finding {
     Same,
     DiffersIn(usize),
     Malformed,
+}
+
+// What is called: a run, a block check, or the reading of a hex file.
+pub enum Kind {
+    Run,
+    Check,
+    Hex,
 }
 
 // A number of 32 bits, as one of 64.
@@ -94,9 +102,9 @@ fn compare_run(line: &[u8], told: [u32; 13], area: &[u8]) -> Finding
     compare_area(line, area)
 }
 
-// Compares what the block check answers and the marks after.
-fn compare_check(line: &[u8], number: u32, value: u32, marks: &[u8]) -> Finding
-    ensures { λ r. ⌜ r ≡ firstOther (now (line .entry)) (checkedTold number value (now (marks .entry))) ⌝ }
+// Compares what a check or a hex file answers, and the marks or the code area after.
+fn compare_answer(line: &[u8], number: u32, value: u32, area: &[u8]) -> Finding
+    ensures { λ r. ⌜ r ≡ firstOther (now (line .entry)) (answerTold number value (now (area .entry))) ⌝ }
 {
     if wide(number) != number_64(line, 17) {
         return Finding::DiffersIn(17);
@@ -104,7 +112,7 @@ fn compare_check(line: &[u8], number: u32, value: u32, marks: &[u8]) -> Finding
     if wide(value) != number_64(line, 19) {
         return Finding::DiffersIn(19);
     }
-    compare_area(line, marks)
+    compare_area(line, area)
 }
 
 // Runs the block, over areas as long as the line says, and compares.
@@ -122,22 +130,32 @@ fn judge_check(line: &[u8], code: &[u8], marks: &mut [u8]) -> Finding
 {
     let mut answer = [0];
     let number = sangolid_check(code, marks, &mut answer);
-    compare_check(line, number, answer[0], marks)
+    compare_answer(line, number, answer[0], marks)
+}
+
+// Reads the hex file, over areas as long as the line says, and compares.
+fn judge_hex(line: &[u8], text: &[u8], code: &mut [u8]) -> Finding
+    ensures { λ r. ⌜ HexFinds (now (line .entry)) (now (text .entry)) (now (code .entry)) r ⌝ }
+{
+    let mut answer = [0];
+    let number = sangolid_hex(text, code, &mut answer);
+    compare_answer(line, number, answer[0], code)
 }
 
 // Fills areas as long as the line says, and judges the case by its kind.
-fn judge_filled(line: &[u8], runs: bool, code: &mut [u8], area: &mut [u8]) -> Finding
-    ensures { λ r. ⌜ KindFinds runs (now (line .entry)) (padTo (now (line .entry)) 14 (length (now (code .entry)))) (padTo (now (line .entry)) 16 (length (now (area .entry)))) r ⌝ }
+fn judge_filled(line: &[u8], kind: Kind, code: &mut [u8], area: &mut [u8]) -> Finding
+    ensures { λ r. ⌜ KindFinds kind (now (line .entry)) (padTo (now (line .entry)) 14 (length (now (code .entry)))) (padTo (now (line .entry)) 16 (length (now (area .entry)))) r ⌝ }
 {
     fill(code, field(line, 14));
     fill(area, field(line, 16));
-    if runs {
-        return judge_run(line, code, area);
+    match kind {
+        Kind::Run => judge_run(line, code, area),
+        Kind::Check => judge_check(line, code, area),
+        Kind::Hex => judge_hex(line, code, area),
     }
-    judge_check(line, code, area)
 }
 
-// Room for code, data or marks: some bytes more than a run or a check may have.
+// Room for an area of a line: some bytes more than a run or a check may have.
 fn room() -> [u8; 65540]
     ensures { λ r. ⌜ 65540 ≡ length r ⌝ }
 {
@@ -157,8 +175,8 @@ fn area_fits(line: &[u8], number: usize) -> bool
 }
 
 // Judges a case of a kind, over areas as long as its line says.
-fn judge_sized(line: &[u8], runs: bool) -> Finding
-    ensures { λ r. ⌜ SizedFinds runs (now (line .entry)) r ⌝ }
+fn judge_sized(line: &[u8], kind: Kind) -> Finding
+    ensures { λ r. ⌜ SizedFinds kind (now (line .entry)) r ⌝ }
 {
     if !area_fits(line, 13) {
         return Finding::Malformed;
@@ -170,7 +188,7 @@ fn judge_sized(line: &[u8], runs: bool) -> Finding
     let mut area = room();
     let code_size = number_64(line, 13) as usize;
     let area_size = number_64(line, 15) as usize;
-    judge_filled(line, runs, &mut code[..code_size], &mut area[..area_size])
+    judge_filled(line, kind, &mut code[..code_size], &mut area[..area_size])
 }
 
 // Judges the case of a line.
@@ -178,10 +196,13 @@ pub fn judge(line: &[u8]) -> Finding
     ensures { λ r. ⌜ Finds (now (line .entry)) r ⌝ }
 {
     if has_form(line, b"rnnnnnnnnnnwnbnbnwnnnnnnnnnnnnb") {
-        return judge_sized(line, true);
+        return judge_sized(line, Kind::Run);
     }
     if has_form(line, b"c-----------nbnbn-n-----------b") {
-        return judge_sized(line, false);
+        return judge_sized(line, Kind::Check);
+    }
+    if has_form(line, b"h-----------nbnbn-n-----------b") {
+        return judge_sized(line, Kind::Hex);
     }
     Finding::Malformed
 }

@@ -9,6 +9,7 @@ use lib.Dec.{eqb}
 use lib.ListN.{length, getD, take, drop, set, drop-of-length-le, List·getD-eq-default}
 use lib.Seq.{drop-cons, take-suc-set, getD-drop, drop-drop}
 use borrow.Author.Tests.{eq-eqb, ne-eqb, eqb-true}
+use Rattle.text.proofs.Tests.{both-hold}
 use Rattle.vector_text.specs.Hex.{digitOf, bytesOf, padded, equal}
 
 -- two digits a byte
@@ -102,11 +103,6 @@ equal-self : (xs : List ℕ) → equal xs xs ≡ true
 unfolding equal
 equal-self [] = refl
 equal-self (x ∷ xs) = rw (eq-eqb x x refl) (equal-self xs)
-
--- both of two tests hold
-both-hold : (p q : Bool) → p && q ≡ true → (p ≡ true) × (q ≡ true)
-both-hold true q h = (refl, h)
-both-hold false q h = absurd (false≢true h)
 
 -- bytes told equal are the same
 pub equal-same : (xs ys : List ℕ) → equal xs ys ≡ true → xs ≡ ys

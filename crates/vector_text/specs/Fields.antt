@@ -43,11 +43,13 @@ pub data Sort : Type 0 where
   number : ℕ → Sort
   bytes : Sort
 
--- the sort that a letter stands for: r the word run, c the word check, n a number of 32 bits, w one of 64, b bytes, any other the dash
+-- the sort that a letter stands for: r the word run, c the word check, h the word hex, n a number of 32 bits, w one of 64, b bytes, any other the dash
 unfoldable pub sortOf : ℕ → Sort
 sortOf letter =
     cond (eqb letter 114) (word (ascii "run"))
-    (cond (eqb letter 99) (word (ascii "check")) (cond (eqb letter 110) (number 8) (cond (eqb letter 119) (number 16) (cond (eqb letter 98) bytes (word dash)))))
+    (cond (eqb letter 99) (word (ascii "check"))
+    (cond (eqb letter 104) (word (ascii "hex"))
+    (cond (eqb letter 110) (number 8) (cond (eqb letter 119) (number 16) (cond (eqb letter 98) bytes (word dash))))))
 
 -- a field is of a sort
 unfoldable pub isOf : Sort → List ℕ → Bool

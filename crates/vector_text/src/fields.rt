@@ -38,14 +38,15 @@ fn is_bytes(text: &[u8]) -> bool
     all_digits(text)
 }
 
-// Whether a field is of the sort that a letter stands for: r the word run, c the word check, n a number of 32 bits,
-// w one of 64, b bytes, - nothing.
+// Whether a field is of the sort that a letter stands for: r the word run, c the word check, h the word hex,
+// n a number of 32 bits, w one of 64, b bytes, - nothing.
 fn is_of(text: &[u8], sort: u8) -> bool
     ensures { λ r. ⌜ r ≡ isOf (sortOf sort) (now (text .entry)) ⌝ }
 {
     match sort {
         b'r' => same(text, b"run"),
         b'c' => same(text, b"check"),
+        b'h' => same(text, b"hex"),
         b'n' => is_number(text, 8),
         b'w' => is_number(text, 16),
         b'b' => is_bytes(text),

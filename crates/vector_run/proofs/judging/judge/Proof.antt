@@ -2,8 +2,8 @@
 use mathlib.Core.Path.{sym, _∙_}
 use borrow.Author.Needs.{needs}
 use Rattle.text.specs.Ascii.{ascii}
-use Rattle.vector_run.specs.Cases.{isRun, isCheck}
-use Rattle.vector_run.specs.Findings.{of-run, of-check, of-neither}
+use Rattle.vector_run.specs.Cases.{isRun, isCheck, isHex}
+use Rattle.vector_run.specs.Findings.{of-run, of-check, of-hex, of-none}
 use Rattle.vector_run.proofs.judging.judge.Statement.{statement}
 use Rattle.vector_run.proofs.judging.judge.Tie as tie
 
@@ -17,8 +17,14 @@ returns-2 c =
     of-check (sym (c .before .before .before .before .before .has-form .ensures) ∙ c .before .before .before .before .if1 .left) (sym (c .before .before .has-form2 .ensures) ∙ c .before .if2 .taken) (c .judge-sized2 .ensures)
 
 returns-3 : tie.Need-returns-3
-unfolding isRun isCheck ascii
-returns-3 c = of-neither (sym (c .before .before .before .before .has-form .ensures) ∙ c .before .before .before .if1 .left) (sym (c .before .has-form2 .ensures) ∙ c .if2 .left)
+unfolding isRun isCheck isHex ascii
+returns-3 c =
+    of-hex (sym (c .before .before .before .before .before .before .before .before .has-form .ensures) ∙ c .before .before .before .before .before .before .before .if1 .left) (sym (c .before .before .before .before .before .has-form2 .ensures) ∙ c .before .before .before .before .if2 .left) (sym (c .before .before .has-form3 .ensures) ∙ c .before .if3 .taken) (c .judge-sized3 .ensures)
+
+returns-4 : tie.Need-returns-4
+unfolding isRun isCheck isHex ascii
+returns-4 c =
+    of-none (sym (c .before .before .before .before .before .before .before .has-form .ensures) ∙ c .before .before .before .before .before .before .if1 .left) (sym (c .before .before .before .before .has-form2 .ensures) ∙ c .before .before .before .if2 .left) (sym (c .before .has-form3 .ensures) ∙ c .if3 .left)
 
 pub judge-spec : {M : Type 1} → statement M
 judge-spec =
@@ -32,4 +38,8 @@ judge-spec =
     (λ c κs. search needs)
     (λ c κs. search needs)
     returns-2
-    returns-3)
+    (λ c. search needs)
+    (λ c κs. search needs)
+    (λ c κs. search needs)
+    returns-3
+    returns-4)

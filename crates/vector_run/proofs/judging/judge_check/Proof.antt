@@ -5,7 +5,7 @@ use Rattle.vector_run.proofs.judging.judge_check.Statement.{statement}
 use Rattle.vector_run.proofs.judging.judge_check.Tie as tie
 
 returns : tie.Need-returns
-returns c = check-found (c .before .before .before .before .before .sangolid-check .ensures) (c .compare-check .ensures)
+returns c = check-found (c .before .before .before .before .before .sangolid-check .ensures) (c .compare-answer .ensures)
 
 pub judge-check-spec : {M : Type 1} → statement M
 judge-check-spec =

@@ -16,28 +16,34 @@ unfolding sortOf isOf ascii
 returns-2 c = rw (c .before .before .match .keys2) (same-equal _ _ _ (c .same2 .ensures .0) (c .same2 .ensures .1))
 
 returns-3 : tie.Need-returns-3
-unfolding sortOf isOf
-returns-3 c = rw (c .before .match .keys3) (c .is-number .ensures)
+unfolding sortOf isOf ascii
+returns-3 c = rw (c .before .before .match .keys3) (same-equal _ _ _ (c .same3 .ensures .0) (c .same3 .ensures .1))
 
 returns-4 : tie.Need-returns-4
 unfolding sortOf isOf
-returns-4 c = rw (c .before .match .keys4) (c .is-number2 .ensures)
+returns-4 c = rw (c .before .match .keys4) (c .is-number .ensures)
 
 returns-5 : tie.Need-returns-5
 unfolding sortOf isOf
-returns-5 c = rw (c .before .match .keys5) (c .is-bytes .ensures)
+returns-5 c = rw (c .before .match .keys5) (c .is-number2 .ensures)
 
 returns-6 : tie.Need-returns-6
+unfolding sortOf isOf
+returns-6 c = rw (c .before .match .keys6) (c .is-bytes .ensures)
+
+returns-7 : tie.Need-returns-7
 unfolding sortOf isOf dash ascii
-returns-6 c =
+returns-7 c =
     let other = c .before .before .match .rest in
-    rw (ne-eqb _ _ (other .0 .0 .0 .0 .1), ne-eqb _ _ (other .0 .0 .0 .1), ne-eqb _ _ (other .0 .0 .1), ne-eqb _ _ (other .0 .1), ne-eqb _ _ (other .1))
-    (same-equal _ _ _ (c .same3 .ensures .0) (c .same3 .ensures .1))
+    rw (ne-eqb _ _ (other .0 .0 .0 .0 .0 .1), ne-eqb _ _ (other .0 .0 .0 .0 .1), ne-eqb _ _ (other .0 .0 .0 .1), ne-eqb _ _ (other .0 .0 .1), ne-eqb _ _ (other .0 .1), ne-eqb _ _ (other .1))
+    (same-equal _ _ _ (c .same4 .ensures .0) (c .same4 .ensures .1))
 
 pub is-of-spec : {M : Type 1} → statement M
 is-of-spec =
     tie.close
     (tie.spec
+    (λ c. search needs)
+    (λ c κs. search needs)
     (λ c. search needs)
     (λ c κs. search needs)
     (λ c. search needs)
@@ -52,4 +58,5 @@ is-of-spec =
     returns-3
     returns-4
     returns-5
-    returns-6)
+    returns-6
+    returns-7)
