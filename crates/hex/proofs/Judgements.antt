@@ -73,15 +73,15 @@ module _ (size : ℕ) (file : File) (image line : List ℕ) (unended : file .end
         long : length (bytesAt line 9 count) ≡ count
         long = bytes-length line 9 count
 
-        longer : Proper own → count ≡ 0
-        longer (of-data e) = absurd (omega arith)
-        longer (of-end e n) = sym long ∙ n
-        longer (of-upper e n) = absurd (omega arith)
+        none : Proper own → count ≡ 0
+        none (of-data e) = absurd (omega arith)
+        none (of-end e n) = sym long ∙ n
+        none (of-upper e n) = absurd (omega arith)
 
         go : (t : Bool) → eqb count 0 ≡ t → JudgesFrom size file image line (cond t (Judged.Sound (ending file)) (Judged.Faulty 32)) image
         go true e =
             quiet (of-end is (long ∙ eqb-true count 0 e)) (λ upper. given-other upper own (λ k. omega arith)) (λ records known. known-end known own is)
-        go false e = improper (λ p. eqb-false count 0 e (longer p))
+        go false e = improper (λ p. eqb-false count 0 e (none p))
 
     -- one of type 04
     pub judged-upper : byteAt line 7 ≡ 4 → JudgesFrom size file image line (upperJudged line count file) image

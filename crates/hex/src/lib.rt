@@ -20,6 +20,26 @@ pub enum Answer {
     Refused(u32, usize),
 }
 
+// The paper's number of an answer; 0 for a file that is read.
+pub fn number_of(answer: Answer) -> u32
+    ensures { λ r. ⌜ r ≡ numberOf answer ⌝ }
+{
+    match answer {
+        Answer::Code(_) => 0,
+        Answer::Refused(number, _) => number,
+    }
+}
+
+// The code's length, or the line.
+pub fn value_of(answer: Answer) -> usize
+    ensures { λ r. ⌜ r ≡ valueOf answer ⌝ }
+{
+    match answer {
+        Answer::Code(length) => length,
+        Answer::Refused(_, line) => line,
+    }
+}
+
 // What is found of all lines: this is known after them; or the number that refuses one, and which.
 enum Verdict {
     Whole(File),

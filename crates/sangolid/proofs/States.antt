@@ -73,6 +73,8 @@ pub checks-judged : {code marks answer after : List ℕ} {n number v value : ℕ
 checks-judged {answer} {v} long judging numbered worth = rw (sets-whole (v ∷ []) answer long, numbered, worth) (judged long judging)
 
 -- a hex file's answer is written whole
-pub unhexes-read : {text code answer after : List ℕ} {number value v : ℕ} → length answer ≡ 1 → Outcome text code number value after → v ≡ wordOf value
-    → Unhexes text code answer number after (set answer 0 v)
-unhexes-read {answer} {v} long outcome worth = rw (sets-whole (v ∷ []) answer long, worth) (unhexed long outcome)
+pub unhexes-read : {text code answer after : List ℕ} {n number v value w : ℕ} → length answer ≡ 1 → Outcome text code number value after → n ≡ number
+    → v ≡ value
+    → w ≡ wordOf v
+    → Unhexes text code answer n after (set answer 0 w)
+unhexes-read {answer} {w} long outcome numbered worth word = rw (sets-whole (w ∷ []) answer long, numbered, word, worth) (unhexed long outcome)

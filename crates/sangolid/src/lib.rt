@@ -1,6 +1,5 @@
 // The C interface: a run, a block check and the reading of a hex file, over areas that the caller lends.
 use blockcheck::Verdict;
-use hex::Answer;
 use run::Lent;
 use run::Ran;
 ghost use mathlib.Core.Path.{_≡_};
@@ -130,14 +129,7 @@ pub extern "C" fn sangolid_hex(text: &[u8], code: &mut [u8], answer: &mut [u32])
     if answer.len() != 1 {
         return 90;
     }
-    match hex::read(text, code) {
-        Answer::Code(length) => {
-            answer[0] = word_of(length);
-            0
-        }
-        Answer::Refused(number, line) => {
-            answer[0] = word_of(line);
-            number
-        }
-    }
+    let read = hex::read(text, code);
+    answer[0] = word_of(hex::value_of(read));
+    hex::number_of(read)
 }

@@ -1,15 +1,14 @@
 // A hex file at the command line: its code, or a line that says why it is refused.
-use hex::Answer;
+use hex::number_of;
+use hex::value_of;
 use libc::STDERR_FILENO;
 use libc::STDIN_FILENO;
 use libc::STDOUT_FILENO;
 use text::put_bytes;
 use text::put_field;
 use text::put_refusal;
-ghost use mathlib.Core.Path.{_≡_};
 ghost use Prim.Native.Nat.{_≤_};
 ghost use lib.ListN.{length};
-ghost use Rattle.hex.specs.Files.{numberOf, valueOf};
 ghost use Rattle.text.specs.Written.{Wrote};
 ghost use Rattle.unhex_text.specs.Unhexing.{codeLine, longest, Unhexed};
 
@@ -17,26 +16,6 @@ ghost use Rattle.unhex_text.specs.Unhexing.{codeLine, longest, Unhexed};
 pub struct Ends {
     pub code: usize,
     pub line: usize,
-}
-
-// The paper's number of an answer.
-fn number_of(answer: Answer) -> usize
-    ensures { λ r. ⌜ r ≡ numberOf answer ⌝ }
-{
-    match answer {
-        Answer::Code(_) => 0,
-        Answer::Refused(number, _) => number as usize,
-    }
-}
-
-// The code's length, or the line that is refused.
-fn value_of(answer: Answer) -> usize
-    ensures { λ r. ⌜ r ≡ valueOf answer ⌝ }
-{
-    match answer {
-        Answer::Code(size) => size,
-        Answer::Refused(_, line) => line,
-    }
 }
 
 // The line of a file that is read, from the start of a buffer on.
@@ -56,7 +35,7 @@ pub fn unhex(text: &[u8], code: &mut [u8], line: &mut [u8]) -> Ends
         return Ends { code: 0, line: end };
     }
     let answer = hex::read(text, code);
-    let number = number_of(answer);
+    let number = number_of(answer) as usize;
     let value = value_of(answer);
     if number == 0 {
         let end = put_code(line, value);

@@ -10,10 +10,7 @@ unfolding misfit
 returns c = unfit-answer (c .if1 .taken)
 
 returns-2 : tie.Need-returns-2
-returns-2 c = unhexes-read (c .before .before .before .before .before .before .before .before .if1 .left) (rw (c .before .before .length .given .1) at (c .before .before .before .before .before .before .read .ensures)) (c .word-of .ensures)
-
-returns-3 : tie.Need-returns-3
-returns-3 c = unhexes-read (c .before .before .before .before .before .before .before .before .if1 .left) (rw (c .before .before .number .given .1) at (c .before .before .before .before .before .before .read .ensures)) (c .word-of2 .ensures)
+returns-2 c = unhexes-read (c .before .before .before .before .before .before .before .if1 .left) (c .before .before .before .before .before .read .ensures) (c .number-of .ensures) (c .before .before .value-of .ensures) (c .before .word-of .ensures)
 
 pub sangolid-hex-spec : {M : Type 1} → statement M
 sangolid-hex-spec =
@@ -21,15 +18,10 @@ sangolid-hex-spec =
     (tie.spec
     returns
     (λ c κs. search needs)
+    (λ c κs. search needs)
+    (λ c κs. search needs)
     (λ c. search needs)
     (λ c κs. search needs)
     (λ c. search needs)
     (λ c. search needs)
-    (λ c κs. search needs)
-    (λ c. search needs)
-    (λ c. search needs)
-    (λ c. search needs)
-    returns-2
-    (λ c. search needs)
-    (λ c. search needs)
-    returns-3)
+    returns-2)
