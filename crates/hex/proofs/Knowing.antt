@@ -31,15 +31,16 @@ known-none size shows =
     }
 
 module _ {size : ℕ} {records : List Record} {file : File} {image : List ℕ} (known : Known size records file image) (r : Record) where
-  -- a record that gives no byte and is no end
-  pub known-quiet : (upper : ℕ) → (r .kind ≡ 1 → ⊥) → givenBy (upperOf records) r ≡ [] → upper ≡ upperAfter (upperOf records) r → upper < 65536
-      → Known size (r ∷ records) (rising file upper) image
-  unfolding upperOf given rising
-  known-quiet upper other silent is small =
+  -- a record that gives no byte: whether an end record came and the upper half are all that may change
+  known-silent : (ended : Bool) (upper : ℕ) → givenBy (upperOf records) r ≡ [] → (ended ≡ true → Ended (r ∷ records))
+      → (ended ≡ false → Ended (r ∷ records) → ⊥) → upper ≡ upperAfter (upperOf records) r → upper < 65536
+      → Known size (r ∷ records) (record { ended = ended; upper = upper; top = file .top }) image
+  unfolding upperOf given
+  known-silent ended upper silent ends unended is small =
       let same : givenBy (upperOf records) r ++ given records ≡ given records = ap (λ (l : List (ℕ × ℕ)). l ++ given records) silent in
       record {
-        ends = λ e. ended-more records r (known .ends e);
-        unended = λ e. still-open r records other (known .unended e);
+        ends = ends;
+        unended = unended;
         upper = is;
         half = small;
         most = rw same (known .most);
@@ -49,23 +50,19 @@ module _ {size : ℕ} {records : List Record} {file : File} {image : List ℕ} (
         shows = rw same (known .shows);
       }
 
+  -- one that is no end
+  pub known-quiet : (upper : ℕ) → (r .kind ≡ 1 → ⊥) → givenBy (upperOf records) r ≡ [] → upper ≡ upperAfter (upperOf records) r → upper < 65536
+      → Known size (r ∷ records) (rising file upper) image
+  unfolding rising
+  known-quiet upper other silent is small =
+      known-silent (file .ended) upper silent (λ e. ended-more records r (known .ends e)) (λ e. still-open r records other (known .unended e)) is small
+
   -- a record of type 01
   pub known-end : r .kind ≡ 1 → Known size (r ∷ records) (ending file) image
-  unfolding Ended upperOf given ending
+  unfolding Ended ending
   known-end is =
-      let silent : givenBy (upperOf records) r ≡ [] = given-other (upperOf records) r (λ e. omega arith) in
-      let same : givenBy (upperOf records) r ++ given records ≡ given records = ap (λ (l : List (ℕ × ℕ)). l ++ given records) silent in
-      record {
-        ends = λ e. (r, List·Memᴰ·head refl, is);
-        unended = λ e. absurd (false≢true (sym e));
-        upper = known .upper ∙ sym (upper-kept (upperOf records) r (λ e. omega arith));
-        half = known .half;
-        most = rw same (known .most);
-        highest = rw same (known .highest);
-        fits = known .fits;
-        block = known .block;
-        shows = rw same (known .shows);
-      }
+      known-silent true (file .upper) (given-other (upperOf records) r (λ e. omega arith)) (λ e. (r, List·Memᴰ·head refl, is))
+      (λ e. absurd (false≢true (sym e))) (known .upper ∙ sym (upper-kept (upperOf records) r (λ e. omega arith))) (known .half)
 
 -- a record of type 00 whose bytes are laid
 pub known-data : {size : ℕ} {records : List Record} {file : File} {image after : List ℕ} (r : Record) (from : ℕ) → Known size records file image

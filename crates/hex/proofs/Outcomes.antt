@@ -14,7 +14,7 @@ use Rattle.hex.proofs.Forms.{reads-unique}
 use Rattle.hex.proofs.Giving.{given-or-not}
 
 -- the first fault is one
-pub first-unique : {has : Fault → Type 0} {list : List Fault} {f g : Fault} → First has list f → First has list g → f ≡ g
+first-unique : {has : Fault → Type 0} {list : List Fault} {f g : Fault} → First has list f → First has list g → f ≡ g
 first-unique (here p) (here q) = refl
 first-unique (here p) (next q later) = absurd (q p)
 first-unique (next p later) (here q) = absurd (p q)
@@ -26,12 +26,12 @@ faultless fine (here {fault} p) = fine fault p
 faultless fine (next p later) = faultless fine later
 
 -- the records of some lines are the same
-pub stand-unique : {size : ℕ} {records a b : List Record} {lines : List (List ℕ)} → Stand size records lines a → Stand size records lines b → a ≡ b
+stand-unique : {size : ℕ} {records a b : List Record} {lines : List (List ℕ)} → Stand size records lines a → Stand size records lines b → a ≡ b
 stand-unique none none = refl
 stand-unique (next p fine later) (next q well more) = stand-unique later (rw (reads-unique q p) at more)
 
 -- lines that all stand have none that is refused
-pub none-refused : {size : ℕ} {records a b : List Record} {earlier lines : List (List ℕ)} {f : Fault} (line : List ℕ) (later : List (List ℕ))
+none-refused : {size : ℕ} {records a b : List Record} {earlier lines : List (List ℕ)} {f : Fault} (line : List ℕ) (later : List (List ℕ))
     → Stand size records earlier a → First (Has size a line) order f → lines ≡ earlier ++ (line ∷ later) → Stand size records lines b → ⊥
 none-refused line later none first e none = absurd (omega (arith, ap length e))
 none-refused line later (next p fine more) first e none = absurd (omega (arith, ap length e))
@@ -40,7 +40,7 @@ none-refused line later (next p fine more) first e (next q well rest) =
     none-refused line later more first (tail-eq-of-cons-eq e) (rw (reads-unique (rw (head-eq-of-cons-eq e) at q) p) at rest)
 
 -- the first line refused is one, with one fault
-pub refused-once : {size : ℕ} {records a b : List Record} {earlier before : List (List ℕ)} {f g : Fault} (line other : List ℕ) (later after : List (List ℕ))
+refused-once : {size : ℕ} {records a b : List Record} {earlier before : List (List ℕ)} {f g : Fault} (line other : List ℕ) (later after : List (List ℕ))
     → Stand size records earlier a → Stand size records before b → earlier ++ (line ∷ later) ≡ before ++ (other ∷ after)
     → First (Has size a line) order f → First (Has size b other) order g → (f ≡ g) × (length earlier ≡ length before)
 refused-once line other later after none none e p q = (first-unique p (rw (← head-eq-of-cons-eq e) at q), refl)
@@ -52,7 +52,7 @@ refused-once line other later after (next r fine more) (next s well rest) e p q 
     (fault, ap suc place)
 
 -- bytes given leave one code in an area
-pub holds-unique : {bytes : List (ℕ × ℕ)} {area x y : List ℕ} {m n : ℕ} → Holds bytes area m x → Holds bytes area n y → (m ≡ n) × (x ≡ y)
+holds-unique : {bytes : List (ℕ × ℕ)} {area x y : List ℕ} {m n : ℕ} → Holds bytes area m x → Holds bytes area n y → (m ≡ n) × (x ≡ y)
 holds-unique {bytes} {area} {x} {y} {m} {n} p q = (size, ext-getD 0 x y (p .long ∙ sym (q .long)) (λ i h. at-each i))
   where
     size : m ≡ n
@@ -128,7 +128,7 @@ not-outside size a h =
     }
 
 -- lines without a fault give bytes within the area alone
-pub stand-within : {size : ℕ} {records after : List Record} {lines : List (List ℕ)} → Stand size records lines after
+stand-within : {size : ℕ} {records after : List Record} {lines : List (List ℕ)} → Stand size records lines after
     → ((a b : ℕ) → List·Memᴰ (a, b) (given records) → Within size a) → (a b : ℕ) → List·Memᴰ (a, b) (given after) → Within size a
 unfolding given Has
 stand-within none h a b m = h a b m

@@ -58,7 +58,7 @@ module _ {old all : List (ℕ × ℕ)} {image : List ℕ} (shows : Shows old ima
       let here : a ≡ codeBase + i = omega arith in
       free c (rw here at m)
 
-  pub shows-more : Shows all (set image i (0x100 + b))
+  shows-more : Shows all (set image i (0x100 + b))
   shows-more =
       let long = shows .long in
       record {

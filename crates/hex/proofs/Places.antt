@@ -39,7 +39,7 @@ pub pairs-end : (line : List ℕ) (i : ℕ) → length line ≤ i + 1 → pairsI
 pairs-end line i h = pairs-few (drop i line) (rw (length-drop i line) (omega arith))
 
 -- pairs have two bytes each
-pub pairs-within : (text : List ℕ) → 2 * pairsIn text ≤ length text
+pairs-within : (text : List ℕ) → 2 * pairsIn text ≤ length text
 unfolding pairsIn
 pairs-within [] = omega arith
 pairs-within (a ∷ []) = omega arith

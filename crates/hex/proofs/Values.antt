@@ -41,19 +41,19 @@ past-small c h =
     rw (le-leb 48 c (omega arith), lt-leb c 57 (omega arith), le-leb 65 c (omega arith), lt-leb c 70 (omega arith), le-leb 97 c (omega arith), lt-leb c 102 h)
 
 -- a digit's value
-pub digit-value : {c d : ℕ} → Digit c d → digitOf c ≡ d
+digit-value : {c d : ℕ} → Digit c d → digitOf c ≡ d
 digit-value {c} (figure h g) = of-figure c h g
 digit-value {c} (capital h g) = of-capital c h g
 digit-value {c} (small h g) = of-small c h g
 
 -- it is below 16
-pub digit-below : {c d : ℕ} → Digit c d → d < 16
+digit-below : {c d : ℕ} → Digit c d → d < 16
 digit-below (figure h g) = omega arith
 digit-below (capital h g) = omega arith
 digit-below (small h g) = omega arith
 
 -- a value below 16 is a digit's
-pub digit-of : (c : ℕ) → digitOf c < 16 → Digit c (digitOf c)
+digit-of : (c : ℕ) → digitOf c < 16 → Digit c (digitOf c)
 unfolding digitOf
 digit-of c h = go (leb 48 c && leb c 57) (leb 65 c && leb c 70) (leb 97 c && leb c 102) refl refl refl h
   where
