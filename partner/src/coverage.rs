@@ -2,6 +2,7 @@
 
 mod bits;
 mod hex;
+mod parity;
 mod undefined;
 
 use std::collections::BTreeMap;
@@ -9,6 +10,7 @@ use std::fmt::{self, Display, Formatter};
 
 use self::bits::Bits;
 use self::hex::Hex;
+use self::parity::Parity;
 use self::undefined::Undefined;
 use crate::decode::{Instruction, Operand, Operation, PREFIXES};
 use crate::machine::{Machine, Width, CODE_BASE, ECX, HOME, MAX_BYTES};
@@ -147,6 +149,7 @@ pub struct Coverage {
     prefixes: Group,
     bits: Bits,
     undefined: Undefined,
+    parity: Parity,
     loops: Group,
     starts: Group,
     ends: Group,
@@ -192,6 +195,7 @@ impl Coverage {
             prefixes: Group::new("prefix orders".to_string(), PREFIXES.iter().map(prefix_name)),
             bits: Bits::new(),
             undefined: Undefined::new(),
+            parity: Parity::new(),
             loops: runs("ways of going round", &LOOPS),
             starts: runs("starts outside the code", &OUTSIDE),
             ends: runs("ways out of the code", &OUTSIDE),
@@ -203,6 +207,7 @@ impl Coverage {
     pub fn saw(&mut self, seen: &Seen) {
         self.bits.saw(seen);
         self.undefined.saw(seen);
+        self.parity.saw(seen);
         let count = self.forms.entry(form(seen.bytes, seen.instruction)).or_default();
         match seen.stepped {
             Ok(step) => {
@@ -214,9 +219,9 @@ impl Coverage {
         }
     }
 
-    /// Whether the instruction has a shape that never came, of M-100's groups or M-101's.
+    /// Whether the instruction has a shape that never came, of the groups of M-100, M-101 and M-103.
     pub fn is_new(&self, seen: &Seen) -> bool {
-        self.bits.is_new(seen) || self.undefined.is_new(seen)
+        self.bits.is_new(seen) || self.undefined.is_new(seen) || self.parity.is_new(seen)
     }
 
     /// Whether every shape of bit tests, scans, double shifts and conditional moves came.
@@ -227,6 +232,11 @@ impl Coverage {
     /// Whether every shape of flags left undefined and of flags kept by a count of 0 came.
     pub fn has_all_undefined(&self) -> bool {
         self.undefined.groups().all(Group::is_full)
+    }
+
+    /// Whether every count of ones that decides PF came.
+    pub fn has_all_parities(&self) -> bool {
+        self.parity.group().is_full()
     }
 
     /// Counts the shapes of a finished step.
@@ -300,7 +310,8 @@ impl Coverage {
     fn groups(&self) -> impl Iterator<Item = &Group> {
         let runs = [&self.loops, &self.starts, &self.ends];
         let steps = [&self.modrm].into_iter().chain(&self.sib).chain([&self.prefixes]);
-        steps.chain(self.bits.groups()).chain(self.undefined.groups()).chain(runs).chain(self.hex.groups())
+        let flags = self.undefined.groups().chain([self.parity.group()]);
+        steps.chain(self.bits.groups()).chain(flags).chain(runs).chain(self.hex.groups())
     }
 
     /// Forms that never finished a step, and numbers and courses that never came.

@@ -114,7 +114,7 @@ fn write_hex(lines: &mut Lines<impl Write>, case: &HexCase) -> io::Result<()> {
     )
 }
 
-/// Whether the case's first step has a shape of M-100's or M-101's groups that never came.
+/// Whether the case's first step has a shape of the groups of M-100, M-101 and M-103 that never came.
 fn adds(case: &RunCase, coverage: &Coverage) -> bool {
     let mut new = false;
     run_observed(case.machine, &case.code, &mut case.data.clone(), 1, |seen| new |= coverage.is_new(&seen));
@@ -152,9 +152,9 @@ fn write_missing_hex(lines: &mut Lines<impl Write>, most: u64, generator: &mut G
     Ok(written)
 }
 
-/// Writes the header and so many lines, first one finished step of each form, then steps for the shapes of M-100's and
-/// M-101's groups still missing, then hex files for the shapes of M-102's, then random cases, and gives back what they
-/// cover. With another program the results are its own, but for the undefined flags.
+/// Writes the header and so many lines, first one finished step of each form, then steps for the shapes of M-100's,
+/// M-101's and M-103's groups still missing, then hex files for the shapes of M-102's, then random cases, and gives back
+/// what they cover. With another program the results are its own, but for the undefined flags.
 pub fn write_vectors(out: &mut impl Write, other: Option<&dyn Other>, seed: u64, count: u64) -> io::Result<Coverage> {
     let mut generator = Generator::new(seed, Size::Small);
     let names: Vec<String> = generator.form_names().map(str::to_string).collect();
@@ -167,6 +167,7 @@ pub fn write_vectors(out: &mut impl Write, other: Option<&dyn Other>, seed: u64,
     }
     written += write_missing(&mut lines, count - written, Coverage::has_all_bits, || generator.bits())?;
     written += write_missing(&mut lines, count - written, Coverage::has_all_undefined, || generator.single())?;
+    written += write_missing(&mut lines, count - written, Coverage::has_all_parities, || generator.single())?;
     written += write_missing_hex(&mut lines, count - written, &mut generator)?;
     while written < count {
         match generator.next_case() {

@@ -1,11 +1,11 @@
-//! A program that slips in a bit test, scan, double shift or conditional move, or in undefined flags, is found out.
+//! A program that slips in a bit test, scan, double shift or conditional move, in undefined flags or in parity, is found out.
 
 mod common;
 
 use common::{Ended, Program};
 use partner::compare::compare;
 use partner::decode::{BitTest, DoubleShift, Instruction, Operand, Operation, Scan, Shift};
-use partner::machine::{Machine, Width, ECX, STATUS};
+use partner::machine::{Machine, Width, ECX, PF, STATUS};
 use partner::step::{condition, execute, fetch, Step, Stop};
 
 /// Puts another operation into the instruction's place.
@@ -182,6 +182,19 @@ fn flags_cleared_by_a_count_of_0_are_found() {
     let (found, _) = flag_disagreements(|machine, instruction, step| match instruction.operation {
         Operation::Shift(_, _, count) | Operation::DoubleShift(.., count) if masked(machine, count) == 0 => {
             step.machine.flags & !STATUS
+        }
+        _ => step.machine.flags,
+    });
+    assert!(found >= 5, "{found}");
+}
+
+#[test]
+fn a_parity_of_16_bits_is_found() {
+    let (found, _) = flag_disagreements(|_, instruction, step| match instruction.operation {
+        // An odd number of ones above the low byte turns PF.
+        Operation::Inc(Operand::Register(to)) | Operation::Dec(Operand::Register(to)) => {
+            let above = step.machine.register(to, instruction.width) >> 8 & 0xFF;
+            step.machine.flags ^ PF * (above.count_ones() % 2)
         }
         _ => step.machine.flags,
     });
