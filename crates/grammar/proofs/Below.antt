@@ -62,7 +62,7 @@ Beyond zero x = Unit {0}
 Beyond (suc k) x = Beyond k x × (x ≡ k → ⊥)
 
 -- so x is at least k
-beyond : (k x : ℕ) → Beyond k x → k ≤ x
+pub beyond : (k x : ℕ) → Beyond k x → k ≤ x
 beyond zero x h = zero-le
 beyond (suc k) x h = let l = beyond k x (h .0) in let other = h .1 in omega arith
 

@@ -1,23 +1,18 @@
--- The table's rule: equal opcodes have one rule, and an opcode that is none of those that the lists name has none.
+-- What lines say of an opcode that they do not list: one that is none of those that the lists name has no rule.
 -- Assumes nothing.
 use mathlib.Core.Path.{_≡_, refl, ap, sym, _∙_}
 use mathlib.Core.Bool.{Bool, true, false}
 use mathlib.Core.List.{List, [], _∷_}
-use Prim.Native.Nat.{ℕ, zero, suc, _+_, _-_, _/_, _%_, _≤_}
+use Prim.Native.Nat.{ℕ, zero, suc, _+_, _-_, _≤_}
 use native.Mathlib.Omega.{arith}
-use lib.Dec.{T, leb, ltb, eqb, ltb→lt}
-use borrow.Author.Tests.{eqb-true, leb-true, lt-leb}
+use lib.Dec.{T, leb, ltb, ltb→lt}
+use borrow.Author.Tests.{leb-true, lt-leb}
 use Rattle.grammar.specs.Choice.{pick, both, either}
 use Rattle.grammar.specs.Opcodes.{Line, Form, unlisted, listed, lists, forms, with66, withF2, withF3, repeatsOf, entryOf, ruleOf}
-use Rattle.grammar.specs.Table.{immediateAt, kindIn, entryAt}
 use Rattle.grammar.specs.declared.rule.Prefix66.{Prefix66}
 use Rattle.grammar.specs.declared.rule.Rule.{Rule}
 use Rattle.grammar.specs.declared.rule.Entry.{Entry}
 use Rattle.grammar.proofs.Below.{both-left, both-right, both-right-fails}
-
--- equal opcodes have one rule
-pub same-rule : {k n : ℕ} → k ≡ n → ruleOf n ≡ ruleOf k
-same-rule e = ap ruleOf (sym e)
 
 -- what lines say of an opcode that they do not list
 pub says-other : {A : Type 0} (ls : List (Line A)) (other : A) (k : ℕ) → lists ls k ≡ false → listed ls other k ≡ other
@@ -87,10 +82,6 @@ not-listed (l ∷ ls) x h =
     let here = none-from (l .first) (suc (l .last) - l .first) x (later .0) in
     (here .0, rw (not-between (l .first) (l .last) x (here .1)) (later .1))
 
--- an opcode that is none of the lists' has no rule
-pub no-rule : (k : ℕ) → NoneOf forms k (Unit {0}) → Entry.Unlisted ≡ ruleOf k
-no-rule k none = sym (without-rule k (not-listed forms k none .1))
-
 -- each line ends below n
 unfoldable pub ends : {A : Type 0} → List (Line A) → ℕ → Bool
 ends [] n = true
@@ -104,13 +95,3 @@ lists-past (l ∷ ls) n k t h =
     let below-n = ltb→lt (l .last) n (both-left (ltb (l .last) n) (ends ls n) t) in
     let outside : leb k (l .last) ≡ false = lt-leb k (l .last) (omega arith) in
     rw (both-right-fails (leb (l .first) k) outside) (lists-past ls n k (both-right (ltb (l .last) n) (ends ls n) t) h)
-
--- an entry's second digit, in words, is what its rule says of the immediate
-second-digit : (x : ℕ) (none : Bool) → eqb x 0xFFFF ≡ none → immediateAt (x / 16 % 16) ≡ kindIn (entryAt x)
-unfolding entryAt pick
-second-digit x true e = rw (eqb-true x 0xFFFF e)
-second-digit x false e = rw e
-
--- so an opcode's is what its rule says
-pub kind-rule : (k x : ℕ) → entryAt x ≡ ruleOf k → immediateAt (x / 16 % 16) ≡ kindIn (ruleOf k)
-kind-rule k x e = second-digit x (eqb x 0xFFFF) refl ∙ ap kindIn e

@@ -2,6 +2,7 @@ pub mod Below
 pub mod Counts
 pub mod Endian
 pub mod Entries
+pub mod Alike
 pub mod Escapes
 pub mod Trees
 pub mod Finding

@@ -1,5 +1,6 @@
 pub mod Choice
 pub mod Opcodes
+pub mod Rows
 pub mod Table
 pub mod Grammar
 pub mod Answers

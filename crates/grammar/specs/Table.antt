@@ -39,11 +39,6 @@ repeatsWords = PrefixRepeat.Refused ∷ PrefixRepeat.F2 ∷ PrefixRepeat.F3 ∷ 
 abbrev pub repeatsAt : ℕ → PrefixRepeat
 repeatsAt digit = getD repeatsWords digit PrefixRepeat.Either
 
--- what an entry's rule says of the immediate; without a rule, the last word
-abbrev pub kindIn : Entry → Immediate
-kindIn Entry.Unlisted = Immediate.ImmVFor0
-kindIn (Entry.Listed rule) = rule .immediate
-
 -- FFFF: no such opcode
 unfoldable pub entryAt : ℕ → Entry
 entryAt x =

@@ -5,5 +5,6 @@ pub mod instruction;
 mod parts;
 pub mod reader;
 pub mod relative;
+pub mod rows;
 pub mod rule;
 mod table;

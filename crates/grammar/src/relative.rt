@@ -1,10 +1,12 @@
 // Jumps, calls and loops: the displacement that their immediate is.
 use crate::bytes::extended;
 use crate::instruction::Decoded;
-use crate::rule::Immediate;
-use crate::table::immediate_kind;
 ghost use mathlib.Core.Path.{_≡_};
-ghost use Rattle.grammar.specs.Relative.{relativeBy, relativeOf};
+ghost use lib.Dec.{leb};
+ghost use Rattle.grammar.specs.Choice.{both};
+ghost use Rattle.grammar.specs.Opcodes.{ruleOf};
+ghost use Rattle.grammar.specs.Relative.{relativeBy, relativeIn, relativeOf};
+ghost use Rattle.grammar.specs.declared.rule.Immediate.{Immediate};
 
 // The displacement of a jump, a call or a loop; other instructions have none.
 pub enum Relative {
@@ -13,27 +15,45 @@ pub enum Relative {
     By(u32),
 }
 
-// What an immediate is to an instruction's target.
-fn by_kind(kind: Immediate, immediate: u32) -> Relative
-    ensures { λ r. ⌜ r ≡ relativeBy kind immediate ⌝ }
+// One byte as a displacement, extended by sign.
+fn short(immediate: u32) -> Relative
+    ensures { λ r. ⌜ r ≡ relativeBy Immediate.Rel8 immediate ⌝ }
 {
-    match kind {
-        Immediate::Absent => Relative::Absent,
-        Immediate::Imm8 => Relative::Absent,
-        Immediate::Imm16 => Relative::Absent,
-        Immediate::Imm32 => Relative::Absent,
-        Immediate::ImmV => Relative::Absent,
-        Immediate::Address => Relative::Absent,
-        Immediate::Rel8 => Relative::By(extended((immediate % 256) as u8)),
-        Immediate::Rel32 => Relative::By(immediate),
-        Immediate::Imm8For0 => Relative::Absent,
-        Immediate::ImmVFor0 => Relative::Absent,
+    Relative::By(extended((immediate % 256) as u8))
+}
+
+// Whether an opcode is one of those from the first to the last.
+fn is_from(first: usize, last: usize, opcode: usize) -> bool
+    ensures { λ r. ⌜ r ≡ both (leb first opcode) (leb opcode last) ⌝ }
+{
+    first <= opcode && opcode <= last
+}
+
+// What an immediate is to an instruction's target: 70-7F, E0-E3, EB have rel8, E8, E9, 0F 80-8F rel32.
+fn by_opcode(opcode: usize, immediate: u32) -> Relative
+    ensures { λ r. ⌜ r ≡ relativeIn (ruleOf opcode) immediate ⌝ }
+{
+    if is_from(0x70, 0x7F, opcode) {
+        return short(immediate);
     }
+    if is_from(0xE0, 0xE3, opcode) {
+        return short(immediate);
+    }
+    if is_from(0xEB, 0xEB, opcode) {
+        return short(immediate);
+    }
+    if is_from(0xE8, 0xE9, opcode) {
+        return Relative::By(immediate);
+    }
+    if is_from(0x180, 0x18F, opcode) {
+        return Relative::By(immediate);
+    }
+    Relative::Absent
 }
 
 // The displacement of a decoded instruction, where its opcode has one.
 pub fn relative_of(d: Decoded) -> Relative
     ensures { λ r. ⌜ r ≡ relativeOf d ⌝ }
 {
-    by_kind(immediate_kind(d.opcode), d.immediate)
+    by_opcode(d.opcode, d.immediate)
 }

@@ -1,25 +1,24 @@
--- The map's rule: equal opcodes have one meaning, and the lists of meanings name the same opcodes as the grammar's.
+-- The rows' meanings: each opcode means what the first one of its row does, and the lists of meanings name the same opcodes as the grammar's.
 -- Assumes nothing.
 use mathlib.Core.Path.{_≡_, refl, ap, sym, _∙_}
 use mathlib.Core.Bool.{Bool, true, false}
 use Prim.Native.Nat.{ℕ}
 use lib.Dec.{ltb}
 use borrow.Author.Tests.{ltb-true, ltb-false}
-use Rattle.grammar.specs.Opcodes.{lists, forms}
+use Rattle.grammar.specs.Choice.{pick}
+use Rattle.grammar.specs.Opcodes.{listed, lists, forms}
+use Rattle.grammar.specs.Rows.{rows, rowOf, firstIn, firstOf}
 use Rattle.grammar.specs.Grammar.{Parts, Built, opcodeNumber}
 use Rattle.grammar.proofs.Below.{values, carried}
-use Rattle.grammar.proofs.Entries.{says-other, ruled-listed, NoneOf, not-listed, ends, lists-past}
+use Rattle.grammar.proofs.Entries.{says-other, ruled-listed, ends, lists-past}
+use Rattle.grammar.proofs.Alike.{alike}
 use Rattle.sense.specs.declared.Kind.{Kind}
 use Rattle.sense.specs.Senses.{alone, senses, senseOf}
 
--- equal opcodes have one meaning
-pub same-sense : {k n : ℕ} → k ≡ n → senseOf n ≡ senseOf k
-same-sense e = ap senseOf (sym e)
-
--- an opcode that is none of the lists' has none of its own
-pub no-sense : (k : ℕ) → NoneOf senses k (Unit {0}) → alone Kind.Mov ≡ senseOf k
-unfolding senseOf
-no-sense k none = sym (says-other senses (alone Kind.Mov) k (not-listed senses k none .1))
+-- an opcode's meaning is that of the first one of its row
+pub row-sense : (k : ℕ) {r : ℕ} → r ≡ rowOf k → senseOf (firstOf r) ≡ senseOf k
+unfolding rows rowOf firstOf firstIn senses senseOf listed pick ends
+row-sense = alike senseOf refl (λ k over. sym (says-other senses (alone Kind.Mov) k (lists-past senses 512 k tt over)))
 
 -- the lists of meanings name the grammar's opcodes, one after the other
 all-meant : values (lists senses) 0 512 ≡ values (lists forms) 0 512

@@ -1,4 +1,5 @@
--- An entry of the code's map of opcodes in words, digits a property: for its private functions; nothing here need be believed. Assumes nothing.
+-- What the opcodes of a row mean, the code's number in words: for its private functions; nothing here need be believed. Assumes nothing.
+use mathlib.Core.Bool.{cond}
 use mathlib.Core.List.{List, [], _∷_}
 use Prim.Native.Nat.{ℕ, _/_, _%_}
 use lib.Dec.{eqb}
@@ -29,13 +30,18 @@ placeWords =
 abbrev pub placeAt : ℕ → Place
 placeAt digit = getD placeWords digit Place.Cl
 
--- a number in words: two digits for the kind, one that is 1 for bytes, then the destination, the source, the third operand
+-- the third operand by its digit; 1 stands for bytes
+unfoldable pub thirdAt : ℕ → Place
+thirdAt digit = cond (eqb digit 1) Place.Absent (placeAt digit)
+
+-- a decimal number in words: the kind in thousands, then a digit each for the destination, the source and the third operand, of which 1 stands for bytes
 unfoldable pub senseAt : ℕ → Sense
+unfolding thirdAt
 senseAt n =
     record {
-      kind = kindAt (n / 0x1_0000);
-      byte = eqb (n / 0x1000 % 16) 1;
-      destination = placeAt (n / 0x100 % 16);
-      source = placeAt (n / 16 % 16);
-      other = placeAt (n % 16);
+      kind = kindAt (n / 1000);
+      byte = eqb (n % 10) 1;
+      destination = placeAt (n / 100 % 10);
+      source = placeAt (n / 10 % 10);
+      other = thirdAt (n % 10);
     }

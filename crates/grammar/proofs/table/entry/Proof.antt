@@ -1,78 +1,12 @@
--- `grammar::table::entry` meets its contract: each arm is its opcode's rule, and an opcode with no arm is in none of the lists. Assumes nothing.
-use Rattle.grammar.specs.Choice.{pick}
-use Rattle.grammar.specs.Opcodes.{ruleOf}
-use Rattle.grammar.specs.Table.{entryAt}
-use Rattle.grammar.proofs.Entries.{same-rule, no-rule}
+-- `grammar::table::entry` meets its contract by its row's. Assumes nothing.
+use mathlib.Core.Path.{_∙_}
+use borrow.Author.Needs.{needs}
+use Rattle.grammar.proofs.Alike.{row-rule}
 use Rattle.grammar.proofs.table.entry.Statement.{statement}
 use Rattle.grammar.proofs.table.entry.Tie as tie
 
+returns : tie.Need-returns
+returns c = c .row-entry .ensures ∙ row-rule _ (c .before .row .ensures)
+
 pub entry-spec : {M : Type 1} → statement M
-unfolding ruleOf entryAt pick
-entry-spec =
-    tie.close
-    (tie.spec
-    (λ c. same-rule (c .match .keys1)) (λ c. same-rule (c .match .keys2)) (λ c. same-rule (c .match .keys3)) (λ c. same-rule (c .match .keys4))
-    (λ c. same-rule (c .match .keys5)) (λ c. same-rule (c .match .keys6)) (λ c. same-rule (c .match .keys7)) (λ c. same-rule (c .match .keys8))
-    (λ c. same-rule (c .match .keys9)) (λ c. same-rule (c .match .keys10)) (λ c. same-rule (c .match .keys11)) (λ c. same-rule (c .match .keys12))
-    (λ c. same-rule (c .match .keys13)) (λ c. same-rule (c .match .keys14)) (λ c. same-rule (c .match .keys15)) (λ c. same-rule (c .match .keys16))
-    (λ c. same-rule (c .match .keys17)) (λ c. same-rule (c .match .keys18)) (λ c. same-rule (c .match .keys19)) (λ c. same-rule (c .match .keys20))
-    (λ c. same-rule (c .match .keys21)) (λ c. same-rule (c .match .keys22)) (λ c. same-rule (c .match .keys23)) (λ c. same-rule (c .match .keys24))
-    (λ c. same-rule (c .match .keys25)) (λ c. same-rule (c .match .keys26)) (λ c. same-rule (c .match .keys27)) (λ c. same-rule (c .match .keys28))
-    (λ c. same-rule (c .match .keys29)) (λ c. same-rule (c .match .keys30)) (λ c. same-rule (c .match .keys31)) (λ c. same-rule (c .match .keys32))
-    (λ c. same-rule (c .match .keys33)) (λ c. same-rule (c .match .keys34)) (λ c. same-rule (c .match .keys35)) (λ c. same-rule (c .match .keys36))
-    (λ c. same-rule (c .match .keys37)) (λ c. same-rule (c .match .keys38)) (λ c. same-rule (c .match .keys39)) (λ c. same-rule (c .match .keys40))
-    (λ c. same-rule (c .match .keys41)) (λ c. same-rule (c .match .keys42)) (λ c. same-rule (c .match .keys43)) (λ c. same-rule (c .match .keys44))
-    (λ c. same-rule (c .match .keys45)) (λ c. same-rule (c .match .keys46)) (λ c. same-rule (c .match .keys47)) (λ c. same-rule (c .match .keys48))
-    (λ c. same-rule (c .match .keys49)) (λ c. same-rule (c .match .keys50)) (λ c. same-rule (c .match .keys51)) (λ c. same-rule (c .match .keys52))
-    (λ c. same-rule (c .match .keys53)) (λ c. same-rule (c .match .keys54)) (λ c. same-rule (c .match .keys55)) (λ c. same-rule (c .match .keys56))
-    (λ c. same-rule (c .match .keys57)) (λ c. same-rule (c .match .keys58)) (λ c. same-rule (c .match .keys59)) (λ c. same-rule (c .match .keys60))
-    (λ c. same-rule (c .match .keys61)) (λ c. same-rule (c .match .keys62)) (λ c. same-rule (c .match .keys63)) (λ c. same-rule (c .match .keys64))
-    (λ c. same-rule (c .match .keys65)) (λ c. same-rule (c .match .keys66)) (λ c. same-rule (c .match .keys67)) (λ c. same-rule (c .match .keys68))
-    (λ c. same-rule (c .match .keys69)) (λ c. same-rule (c .match .keys70)) (λ c. same-rule (c .match .keys71)) (λ c. same-rule (c .match .keys72))
-    (λ c. same-rule (c .match .keys73)) (λ c. same-rule (c .match .keys74)) (λ c. same-rule (c .match .keys75)) (λ c. same-rule (c .match .keys76))
-    (λ c. same-rule (c .match .keys77)) (λ c. same-rule (c .match .keys78)) (λ c. same-rule (c .match .keys79)) (λ c. same-rule (c .match .keys80))
-    (λ c. same-rule (c .match .keys81)) (λ c. same-rule (c .match .keys82)) (λ c. same-rule (c .match .keys83)) (λ c. same-rule (c .match .keys84))
-    (λ c. same-rule (c .match .keys85)) (λ c. same-rule (c .match .keys86)) (λ c. same-rule (c .match .keys87)) (λ c. same-rule (c .match .keys88))
-    (λ c. same-rule (c .match .keys89)) (λ c. same-rule (c .match .keys90)) (λ c. same-rule (c .match .keys91)) (λ c. same-rule (c .match .keys92))
-    (λ c. same-rule (c .match .keys93)) (λ c. same-rule (c .match .keys94)) (λ c. same-rule (c .match .keys95)) (λ c. same-rule (c .match .keys96))
-    (λ c. same-rule (c .match .keys97)) (λ c. same-rule (c .match .keys98)) (λ c. same-rule (c .match .keys99)) (λ c. same-rule (c .match .keys100))
-    (λ c. same-rule (c .match .keys101)) (λ c. same-rule (c .match .keys102)) (λ c. same-rule (c .match .keys103)) (λ c. same-rule (c .match .keys104))
-    (λ c. same-rule (c .match .keys105)) (λ c. same-rule (c .match .keys106)) (λ c. same-rule (c .match .keys107)) (λ c. same-rule (c .match .keys108))
-    (λ c. same-rule (c .match .keys109)) (λ c. same-rule (c .match .keys110)) (λ c. same-rule (c .match .keys111)) (λ c. same-rule (c .match .keys112))
-    (λ c. same-rule (c .match .keys113)) (λ c. same-rule (c .match .keys114)) (λ c. same-rule (c .match .keys115)) (λ c. same-rule (c .match .keys116))
-    (λ c. same-rule (c .match .keys117)) (λ c. same-rule (c .match .keys118)) (λ c. same-rule (c .match .keys119)) (λ c. same-rule (c .match .keys120))
-    (λ c. same-rule (c .match .keys121)) (λ c. same-rule (c .match .keys122)) (λ c. same-rule (c .match .keys123)) (λ c. same-rule (c .match .keys124))
-    (λ c. same-rule (c .match .keys125)) (λ c. same-rule (c .match .keys126)) (λ c. same-rule (c .match .keys127)) (λ c. same-rule (c .match .keys128))
-    (λ c. same-rule (c .match .keys129)) (λ c. same-rule (c .match .keys130)) (λ c. same-rule (c .match .keys131)) (λ c. same-rule (c .match .keys132))
-    (λ c. same-rule (c .match .keys133)) (λ c. same-rule (c .match .keys134)) (λ c. same-rule (c .match .keys135)) (λ c. same-rule (c .match .keys136))
-    (λ c. same-rule (c .match .keys137)) (λ c. same-rule (c .match .keys138)) (λ c. same-rule (c .match .keys139)) (λ c. same-rule (c .match .keys140))
-    (λ c. same-rule (c .match .keys141)) (λ c. same-rule (c .match .keys142)) (λ c. same-rule (c .match .keys143)) (λ c. same-rule (c .match .keys144))
-    (λ c. same-rule (c .match .keys145)) (λ c. same-rule (c .match .keys146)) (λ c. same-rule (c .match .keys147)) (λ c. same-rule (c .match .keys148))
-    (λ c. same-rule (c .match .keys149)) (λ c. same-rule (c .match .keys150)) (λ c. same-rule (c .match .keys151)) (λ c. same-rule (c .match .keys152))
-    (λ c. same-rule (c .match .keys153)) (λ c. same-rule (c .match .keys154)) (λ c. same-rule (c .match .keys155)) (λ c. same-rule (c .match .keys156))
-    (λ c. same-rule (c .match .keys157)) (λ c. same-rule (c .match .keys158)) (λ c. same-rule (c .match .keys159)) (λ c. same-rule (c .match .keys160))
-    (λ c. same-rule (c .match .keys161)) (λ c. same-rule (c .match .keys162)) (λ c. same-rule (c .match .keys163)) (λ c. same-rule (c .match .keys164))
-    (λ c. same-rule (c .match .keys165)) (λ c. same-rule (c .match .keys166)) (λ c. same-rule (c .match .keys167)) (λ c. same-rule (c .match .keys168))
-    (λ c. same-rule (c .match .keys169)) (λ c. same-rule (c .match .keys170)) (λ c. same-rule (c .match .keys171)) (λ c. same-rule (c .match .keys172))
-    (λ c. same-rule (c .match .keys173)) (λ c. same-rule (c .match .keys174)) (λ c. same-rule (c .match .keys175)) (λ c. same-rule (c .match .keys176))
-    (λ c. same-rule (c .match .keys177)) (λ c. same-rule (c .match .keys178)) (λ c. same-rule (c .match .keys179)) (λ c. same-rule (c .match .keys180))
-    (λ c. same-rule (c .match .keys181)) (λ c. same-rule (c .match .keys182)) (λ c. same-rule (c .match .keys183)) (λ c. same-rule (c .match .keys184))
-    (λ c. same-rule (c .match .keys185)) (λ c. same-rule (c .match .keys186)) (λ c. same-rule (c .match .keys187)) (λ c. same-rule (c .match .keys188))
-    (λ c. same-rule (c .match .keys189)) (λ c. same-rule (c .match .keys190)) (λ c. same-rule (c .match .keys191)) (λ c. same-rule (c .match .keys192))
-    (λ c. same-rule (c .match .keys193)) (λ c. same-rule (c .match .keys194)) (λ c. same-rule (c .match .keys195)) (λ c. same-rule (c .match .keys196))
-    (λ c. same-rule (c .match .keys197)) (λ c. same-rule (c .match .keys198)) (λ c. same-rule (c .match .keys199)) (λ c. same-rule (c .match .keys200))
-    (λ c. same-rule (c .match .keys201)) (λ c. same-rule (c .match .keys202)) (λ c. same-rule (c .match .keys203)) (λ c. same-rule (c .match .keys204))
-    (λ c. same-rule (c .match .keys205)) (λ c. same-rule (c .match .keys206)) (λ c. same-rule (c .match .keys207)) (λ c. same-rule (c .match .keys208))
-    (λ c. same-rule (c .match .keys209)) (λ c. same-rule (c .match .keys210)) (λ c. same-rule (c .match .keys211)) (λ c. same-rule (c .match .keys212))
-    (λ c. same-rule (c .match .keys213)) (λ c. same-rule (c .match .keys214)) (λ c. same-rule (c .match .keys215)) (λ c. same-rule (c .match .keys216))
-    (λ c. same-rule (c .match .keys217)) (λ c. same-rule (c .match .keys218)) (λ c. same-rule (c .match .keys219)) (λ c. same-rule (c .match .keys220))
-    (λ c. same-rule (c .match .keys221)) (λ c. same-rule (c .match .keys222)) (λ c. same-rule (c .match .keys223)) (λ c. same-rule (c .match .keys224))
-    (λ c. same-rule (c .match .keys225)) (λ c. same-rule (c .match .keys226)) (λ c. same-rule (c .match .keys227)) (λ c. same-rule (c .match .keys228))
-    (λ c. same-rule (c .match .keys229)) (λ c. same-rule (c .match .keys230)) (λ c. same-rule (c .match .keys231)) (λ c. same-rule (c .match .keys232))
-    (λ c. same-rule (c .match .keys233)) (λ c. same-rule (c .match .keys234)) (λ c. same-rule (c .match .keys235)) (λ c. same-rule (c .match .keys236))
-    (λ c. same-rule (c .match .keys237)) (λ c. same-rule (c .match .keys238)) (λ c. same-rule (c .match .keys239)) (λ c. same-rule (c .match .keys240))
-    (λ c. same-rule (c .match .keys241)) (λ c. same-rule (c .match .keys242)) (λ c. same-rule (c .match .keys243)) (λ c. same-rule (c .match .keys244))
-    (λ c. same-rule (c .match .keys245)) (λ c. same-rule (c .match .keys246)) (λ c. same-rule (c .match .keys247)) (λ c. same-rule (c .match .keys248))
-    (λ c. same-rule (c .match .keys249)) (λ c. same-rule (c .match .keys250)) (λ c. same-rule (c .match .keys251)) (λ c. same-rule (c .match .keys252))
-    (λ c. same-rule (c .match .keys253)) (λ c. same-rule (c .match .keys254)) (λ c. same-rule (c .match .keys255))
-    (λ c. no-rule _ (c .match .rest)))
+entry-spec = tie.close (tie.spec (λ c κs. search needs) (λ c κs. search needs) returns)

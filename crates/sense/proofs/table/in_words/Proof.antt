@@ -8,7 +8,7 @@ returns : tie.Need-returns
 unfolding senseAt
 returns c =
     simp (
-      c .place-of3 .ensures,
+      c .third-of .ensures,
       c .before .place-of2 .ensures,
       c .before .before .place-of .ensures,
       c .before .before .before .kind-of .ensures,
