@@ -1,7 +1,7 @@
 -- PF is set if the low byte of the result holds an even number of ones: it is the exclusive or of the eight bits, negated. Assumes nothing.
-use mathlib.Core.Path.{_≡_, refl, sym, ap, _∙_}
+use mathlib.Core.Path.{_≡_, refl}
 use mathlib.Core.Bool.{Bool, true, false, not, xor}
-use Prim.Native.Nat.{ℕ, zero, suc, _+_, _*_, _/_, _%_, _^_, _<_}
+use Prim.Native.Nat.{ℕ, zero, suc, _+_, _/_, _%_, _^_, _<_}
 use native.Mathlib.Nat.{zero-add, div-one, mod-lt}
 use native.Mathlib.Omega.{arith}
 use lib.Dec.{eqb}
@@ -27,7 +27,13 @@ ones-digit zero h = refl
 ones-digit (suc zero) h = refl
 ones-digit (suc (suc d)) h = absurd (omega arith)
 
--- a digit that is 1 turns an even sum into an odd one, and an odd one into an even one
+-- alone it is even unless it is 1
+digit-even : (d : ℕ) → d < 2 → eqb (d % 2) 0 ≡ not (eqb d 1)
+digit-even zero h = refl
+digit-even (suc zero) h = refl
+digit-even (suc (suc d)) h = absurd (omega arith)
+
+-- added to a count, it turns even into odd and odd into even if it is 1
 turned : (d n : ℕ) (odd : Bool) → d < 2 → eqb (n % 2) 0 ≡ not odd → eqb ((d + n) % 2) 0 ≡ not (xor (eqb d 1) odd)
 unfolding xor
 turned zero n true h e = rw (zero-add n) e
@@ -35,11 +41,6 @@ turned zero n false h e = rw (zero-add n) e
 turned (suc zero) n true h e = let other = eqb-false (n % 2) 0 e in eq-eqb ((1 + n) % 2) 0 (omega arith)
 turned (suc zero) n false h e = let none = eqb-true (n % 2) 0 e in ne-eqb ((1 + n) % 2) 0 (λ (more : (1 + n) % 2 ≡ 0). omega arith)
 turned (suc (suc d)) n odd h e = absurd (omega arith)
-
-digit-even : (d : ℕ) → d < 2 → eqb (d % 2) 0 ≡ not (eqb d 1)
-digit-even zero h = refl
-digit-even (suc zero) h = refl
-digit-even (suc (suc d)) h = absurd (omega arith)
 
 -- the bits 0 to k hold an even number of ones exactly if their exclusive or is 0
 low-bits : (k v : ℕ) → even (v % 2 ^ suc k) ≡ not (exclusive k v)

@@ -6,8 +6,9 @@ use mathlib.Core.List.{List, [], _∷_}
 use Prim.Native.Nat.{ℕ, zero, suc, _+_, _≤_, _<_, zero-le}
 use native.Mathlib.Nat.{add-zero, add-suc, suc-add, zero-add, le-of-suc-le-suc, not-suc-le-zero}
 use native.Mathlib.Omega.{arith}
-use lib.Dec.{T}
+use lib.Dec.{T, ltb}
 use lib.ListN.{length, getD, List·getD-eq-default}
+use borrow.Author.Tests.{ltb-true, ltb-false}
 use Rattle.grammar.specs.Choice.{both, either}
 use Rattle.grammar.specs.Decoding.{some}
 
@@ -43,6 +44,11 @@ both-left-fails b p = rw p
 pub both-right-fails : (a : Bool) {b : Bool} → b ≡ false → both a b ≡ false
 both-right-fails true p = p
 both-right-fails false p = refl
+
+-- one test, or one that fails
+pub either-fails : (a : Bool) → a ≡ either a false
+either-fails true = refl
+either-fails false = refl
 
 -- the test at each number from i on
 from : (f : ℕ → Bool) (i n : ℕ) → T (every f i n) → (k : ℕ) → k < n → T (f (i + k))
@@ -105,6 +111,14 @@ values-at f i (suc n) (suc k) d h =
     values-at f (suc i) n k d (le-of-suc-le-suc h) ∙ ap f (suc-add i k ∙ sym (add-suc i k))
 
 -- what two functions give, one number after the other, being the same, they give the same at each of them
-pub carried : {A : Type 0} (f g : ℕ → A) (n : ℕ) → values f 0 n ≡ values g 0 n → (k : ℕ) → k < n → f k ≡ g k
+carried : {A : Type 0} (f g : ℕ → A) (n : ℕ) → values f 0 n ≡ values g 0 n → (k : ℕ) → k < n → f k ≡ g k
 carried {A} f g n e k h =
     ap f (sym (zero-add k)) ∙ sym (values-at f 0 n k (f k) h) ∙ ap (λ (l : List A). getD l k (f k)) e ∙ values-at g 0 n k (f k) h ∙ ap g (zero-add k)
+
+-- and being the same above n too, they are the same everywhere
+pub everywhere : {A : Type 0} (f g : ℕ → A) (n : ℕ) → values f 0 n ≡ values g 0 n → ((k : ℕ) → n ≤ k → f k ≡ g k) → (k : ℕ) → f k ≡ g k
+everywhere f g n each past k = by (ltb k n) refl
+  where
+    by : (below : Bool) → ltb k n ≡ below → f k ≡ g k
+    by true e = carried f g n each k (ltb-true k n e)
+    by false e = past k (ltb-false k n e)

@@ -5,6 +5,7 @@ pub mod Table
 pub mod Grammar
 pub mod Answers
 pub mod Relative
+pub mod Displacements
 pub mod Reading
 pub mod Decoding
 pub mod Cases

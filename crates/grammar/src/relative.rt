@@ -4,7 +4,8 @@ use crate::instruction::Decoded;
 ghost use mathlib.Core.Path.{_≡_};
 ghost use lib.Dec.{leb};
 ghost use Rattle.grammar.specs.Choice.{both};
-ghost use Rattle.grammar.specs.Opcodes.{ruleOf};
+ghost use Rattle.grammar.specs.Opcodes.{lists, ruleOf};
+ghost use Rattle.grammar.specs.Displacements.{rel8, rel32};
 ghost use Rattle.grammar.specs.Relative.{relativeBy, relativeIn, relativeOf};
 ghost use Rattle.grammar.specs.declared.rule.Immediate.{Immediate};
 
@@ -29,23 +30,31 @@ fn is_from(first: usize, last: usize, opcode: usize) -> bool
     first <= opcode && opcode <= last
 }
 
-// What an immediate is to an instruction's target: 70-7F, E0-E3, EB have rel8, E8, E9, 0F 80-8F rel32.
+// 70-7F, E0-E3 and EB have rel8.
+fn has_rel8(opcode: usize) -> bool
+    ensures { λ r. ⌜ r ≡ lists rel8 opcode ⌝ }
+{
+    if is_from(0x70, 0x7F, opcode) {
+        return true;
+    }
+    is_from(0xE0, 0xE3, opcode) || is_from(0xEB, 0xEB, opcode)
+}
+
+// E8, E9 and 0F 80-8F have rel32.
+fn has_rel32(opcode: usize) -> bool
+    ensures { λ r. ⌜ r ≡ lists rel32 opcode ⌝ }
+{
+    is_from(0xE8, 0xE9, opcode) || is_from(0x180, 0x18F, opcode)
+}
+
+// What an immediate is to an instruction's target.
 fn by_opcode(opcode: usize, immediate: u32) -> Relative
     ensures { λ r. ⌜ r ≡ relativeIn (ruleOf opcode) immediate ⌝ }
 {
-    if is_from(0x70, 0x7F, opcode) {
+    if has_rel8(opcode) {
         return short(immediate);
     }
-    if is_from(0xE0, 0xE3, opcode) {
-        return short(immediate);
-    }
-    if is_from(0xEB, 0xEB, opcode) {
-        return short(immediate);
-    }
-    if is_from(0xE8, 0xE9, opcode) {
-        return Relative::By(immediate);
-    }
-    if is_from(0x180, 0x18F, opcode) {
+    if has_rel32(opcode) {
         return Relative::By(immediate);
     }
     Relative::Absent

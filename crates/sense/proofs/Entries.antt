@@ -1,15 +1,13 @@
 -- The rows' meanings: each opcode means what the first one of its row does, and the lists of meanings name the same opcodes as the grammar's.
 -- Assumes nothing.
-use mathlib.Core.Path.{_≡_, refl, ap, sym, _∙_}
-use mathlib.Core.Bool.{Bool, true, false}
+use mathlib.Core.Path.{_≡_, refl, sym, _∙_}
+use mathlib.Core.Bool.{true}
 use Prim.Native.Nat.{ℕ}
-use lib.Dec.{ltb}
-use borrow.Author.Tests.{ltb-true, ltb-false}
 use Rattle.grammar.specs.Choice.{pick}
 use Rattle.grammar.specs.Opcodes.{listed, lists, forms}
 use Rattle.grammar.specs.Rows.{rows, rowOf, firstIn, firstOf}
 use Rattle.grammar.specs.Grammar.{Parts, Built, opcodeNumber}
-use Rattle.grammar.proofs.Below.{values, carried}
+use Rattle.grammar.proofs.Below.{values, everywhere}
 use Rattle.grammar.proofs.Entries.{says-other, ruled-listed, ends, lists-past}
 use Rattle.grammar.proofs.Alike.{alike}
 use Rattle.sense.specs.declared.Kind.{Kind}
@@ -28,13 +26,8 @@ all-meant = refl
 -- an opcode is listed with a meaning exactly if the grammar lists it
 pub meant-exactly : (k : ℕ) → lists senses k ≡ lists forms k
 unfolding senses forms ends
-meant-exactly k = by (ltb k 512) refl
-  where
-    by : (below : Bool) → ltb k 512 ≡ below → lists senses k ≡ lists forms k
-    by true e = carried (lists senses) (lists forms) 512 all-meant k (ltb-true k 512 e)
-    by false e =
-        let past = ltb-false k 512 e in
-        lists-past senses 512 k tt past ∙ sym (lists-past forms 512 k tt past)
+meant-exactly =
+    everywhere (lists senses) (lists forms) 512 all-meant (λ k over. lists-past senses 512 k tt over ∙ sym (lists-past forms 512 k tt over))
 
 -- so the opcode of each instruction has a meaning of its own
 pub instruction-meant : {p : Parts} → Built p → lists senses (opcodeNumber (p .opcode)) ≡ true

@@ -4,7 +4,7 @@ use Rattle.grammar.specs.Opcodes.{ruleOf}
 use Rattle.grammar.specs.Rows.{rows, firstIn, firstOf}
 use Rattle.grammar.specs.Table.{entryAt}
 use Rattle.grammar.proofs.Below.{beyond}
-use Rattle.grammar.proofs.Alike.{same-first, no-first}
+use Rattle.grammar.proofs.Alike.{rowCount, same-first, no-first}
 use Rattle.grammar.proofs.table.row_entry.Statement.{statement}
 use Rattle.grammar.proofs.table.row_entry.Tie as tie
 
@@ -45,4 +45,4 @@ row-entry-spec =
     (λ c. same-first ruleOf (c .match .keys88)) (λ c. same-first ruleOf (c .match .keys89)) (λ c. same-first ruleOf (c .match .keys90))
     (λ c. same-first ruleOf (c .match .keys91)) (λ c. same-first ruleOf (c .match .keys92)) (λ c. same-first ruleOf (c .match .keys93))
     (λ c. same-first ruleOf (c .match .keys94))
-    (λ c. no-first ruleOf _ (beyond 94 _ (c .match .rest))))
+    (λ c. no-first ruleOf _ (beyond rowCount _ (c .match .rest))))

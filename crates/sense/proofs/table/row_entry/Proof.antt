@@ -3,7 +3,7 @@ use Rattle.grammar.specs.Choice.{pick}
 use Rattle.grammar.specs.Opcodes.{listed}
 use Rattle.grammar.specs.Rows.{rows, firstIn, firstOf}
 use Rattle.grammar.proofs.Below.{beyond}
-use Rattle.grammar.proofs.Alike.{same-first, no-first}
+use Rattle.grammar.proofs.Alike.{rowCount, same-first, no-first}
 use Rattle.sense.specs.Senses.{senses, senseOf}
 use Rattle.sense.specs.Table.{senseAt}
 use Rattle.sense.proofs.table.row_entry.Statement.{statement}
@@ -46,4 +46,4 @@ row-entry-spec =
     (λ c. same-first senseOf (c .match .keys88)) (λ c. same-first senseOf (c .match .keys89)) (λ c. same-first senseOf (c .match .keys90))
     (λ c. same-first senseOf (c .match .keys91)) (λ c. same-first senseOf (c .match .keys92)) (λ c. same-first senseOf (c .match .keys93))
     (λ c. same-first senseOf (c .match .keys94))
-    (λ c. no-first senseOf _ (beyond 94 _ (c .match .rest))))
+    (λ c. no-first senseOf _ (beyond rowCount _ (c .match .rest))))
