@@ -90,7 +90,13 @@ fn agreement_is_found() {
     assert_eq!((comparison.defined, comparison.policy), (0, 0));
     assert_eq!(comparison.coverage.holes(), Vec::<String>::new());
     let coverage = comparison.coverage;
-    assert!(coverage.has_all_bits() && coverage.has_all_undefined() && coverage.has_all_parities() && coverage.has_all_hex(), "{coverage}");
+    assert!(
+        coverage.has_all_bits()
+            && coverage.has_all_undefined()
+            && coverage.has_all_parities()
+            && coverage.has_all_hex(),
+        "{coverage}"
+    );
     assert!(coverage.to_string().contains("\n4 of 4 hex files too long for a vector line, "), "{coverage}");
 }
 

@@ -7,7 +7,13 @@ fn lines_have_the_header_s_columns_and_cover_everything() {
     let mut out = Vec::new();
     let coverage = write_vectors(&mut out, None, 1, 4000).expect("writing to memory succeeds");
     assert_eq!(coverage.holes(), Vec::<String>::new());
-    assert!(coverage.has_all_bits() && coverage.has_all_undefined() && coverage.has_all_parities() && coverage.has_all_hex(), "{coverage}");
+    assert!(
+        coverage.has_all_bits()
+            && coverage.has_all_undefined()
+            && coverage.has_all_parities()
+            && coverage.has_all_hex(),
+        "{coverage}"
+    );
     let text = String::from_utf8(out).expect("the lines are text");
     let columns = HEADER.split('\t').count();
     assert_eq!(text.lines().count(), 4001);
