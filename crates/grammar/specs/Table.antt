@@ -11,7 +11,7 @@ use Rattle.grammar.specs.declared.rule.Prefix66.{Prefix66}
 use Rattle.grammar.specs.declared.rule.PrefixRepeat.{PrefixRepeat}
 use Rattle.grammar.specs.declared.rule.Entry.{Entry}
 
--- the lowest digit: the words by their numbers, and from there on the last word
+-- the first digit: the words by their numbers, and from there on the last word
 abbrev pub modrmWords : List ModRM
 modrmWords = ModRM.Absent ∷ ModRM.Any ∷ ModRM.Memory ∷ ModRM.AllBut6 ∷ ModRM.Only0 ∷ ModRM.AllBut1 ∷ ModRM.Only01 ∷ ModRM.Only01246 ∷ []
 
@@ -32,7 +32,7 @@ sizeWords = Prefix66.Refused ∷ Prefix66.Allowed ∷ []
 abbrev pub sizeAt : ℕ → Prefix66
 sizeAt digit = getD sizeWords digit Prefix66.Only01
 
--- the highest digit: the words by their numbers, and from there on the last word
+-- the last digit: the words by their numbers, and from there on the last word
 abbrev pub repeatsWords : List PrefixRepeat
 repeatsWords = PrefixRepeat.Refused ∷ PrefixRepeat.F2 ∷ PrefixRepeat.F3 ∷ []
 
@@ -44,4 +44,4 @@ unfoldable pub entryAt : ℕ → Entry
 entryAt x =
     pick (eqb x 0xFFFF) Entry.Unlisted
     (Entry.Listed
-    (record { modrm = modrmAt (x % 16); immediate = immediateAt (x / 16 % 16); size = sizeAt (x / 256 % 16); repeats = repeatsAt (x / 4096) }))
+    (record { modrm = modrmAt (x / 4096); immediate = immediateAt (x / 256 % 16); size = sizeAt (x / 16 % 16); repeats = repeatsAt (x % 16) }))

@@ -11,51 +11,51 @@ ghost use Rattle.grammar.specs.Opcodes.{ruleOf};
 ghost use Rattle.grammar.specs.Rows.{firstOf};
 ghost use Rattle.grammar.specs.Table.{modrmAt, immediateAt, sizeAt, repeatsAt, entryAt};
 
-// An entry is a number, a digit a property. The lowest: which ModR/M byte follows.
-const MODRM: u16 = 0x0001;
+// An entry is a number, a digit a property. The first: which ModR/M byte follows.
+const MODRM: u16 = 0x1000;
 
-const MEMORY: u16 = 0x0002;
+const MEMORY: u16 = 0x2000;
 
-const ALL_BUT_6: u16 = 0x0003;
+const ALL_BUT_6: u16 = 0x3000;
 
-const ONLY_0: u16 = 0x0004;
+const ONLY_0: u16 = 0x4000;
 
-const ALL_BUT_1: u16 = 0x0005;
+const ALL_BUT_1: u16 = 0x5000;
 
-const ONLY_0_1: u16 = 0x0006;
+const ONLY_0_1: u16 = 0x6000;
 
-const ONLY_0_1_2_4_6: u16 = 0x0007;
+const ONLY_0_1_2_4_6: u16 = 0x7000;
 
-const ONLY_4_5_6_7: u16 = 0x0008;
+const ONLY_4_5_6_7: u16 = 0x8000;
 
 // The second: which immediate.
-const IMM8: u16 = 0x0010;
+const IMM8: u16 = 0x0100;
 
-const IMM16: u16 = 0x0020;
+const IMM16: u16 = 0x0200;
 
-const IMM32: u16 = 0x0030;
+const IMM32: u16 = 0x0300;
 
-const IMM_V: u16 = 0x0040;
+const IMM_V: u16 = 0x0400;
 
-const ADDRESS: u16 = 0x0050;
+const ADDRESS: u16 = 0x0500;
 
-const REL8: u16 = 0x0060;
+const REL8: u16 = 0x0600;
 
-const REL32: u16 = 0x0070;
+const REL32: u16 = 0x0700;
 
-const IMM8_FOR_0: u16 = 0x0080;
+const IMM8_FOR_0: u16 = 0x0800;
 
-const IMM_V_FOR_0: u16 = 0x0090;
+const IMM_V_FOR_0: u16 = 0x0900;
 
 // The third: whether 66 is allowed.
-const WITH_66: u16 = 0x0100;
+const WITH_66: u16 = 0x0010;
 
-const WITH_66_FOR_0_1: u16 = 0x0200;
+const WITH_66_FOR_0_1: u16 = 0x0020;
 
-// The highest: which of F2 and F3 are allowed.
-const WITH_F3: u16 = 0x2000;
+// The last: which of F2 and F3 are allowed.
+const WITH_F3: u16 = 0x0002;
 
-const WITH_F2_F3: u16 = 0x3000;
+const WITH_F2_F3: u16 = 0x0003;
 
 // The entries. A digit is 0 where its property is absent or refused.
 const ALONE: u16 = 0x0000;
@@ -223,7 +223,7 @@ fn entry(opcode: usize) -> u16
     row_entry(rows::row(opcode))
 }
 
-// The lowest digit in words.
+// The first digit in words.
 fn modrm_of(digit: u16) -> ModRM
     ensures { λ r. ⌜ r ≡ modrmAt digit ⌝ }
 {
@@ -269,7 +269,7 @@ fn size_of(digit: u16) -> Prefix66
     }
 }
 
-// The highest digit in words.
+// The last digit in words.
 fn repeats_of(digit: u16) -> PrefixRepeat
     ensures { λ r. ⌜ r ≡ repeatsAt digit ⌝ }
 {
@@ -289,10 +289,10 @@ fn in_words(entry: u16) -> Entry
         return Entry::Unlisted;
     }
     Entry::Listed(Rule {
-        modrm: modrm_of(entry % 16),
-        immediate: immediate_of(entry / 16 % 16),
-        size: size_of(entry / 256 % 16),
-        repeats: repeats_of(entry / 4096),
+        modrm: modrm_of(entry / 4096),
+        immediate: immediate_of(entry / 256 % 16),
+        size: size_of(entry / 16 % 16),
+        repeats: repeats_of(entry % 16),
     })
 }
 
