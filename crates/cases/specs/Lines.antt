@@ -11,6 +11,7 @@ use Rattle.blockcheck.specs.Blocks.{codeBase}
 use Rattle.blockcheck.specs.Cases as Blocks
 use Rattle.run.specs.declared.Lent.{Lent}
 use Rattle.run.specs.declared.Ran.{Ran}
+use Rattle.run.specs.Steps.{fixedTo}
 use Rattle.run.specs.Runs.{runOf}
 
 -- a run: what it is given, the machine, steps, number and address that it gives back, and the data that it leaves
@@ -24,7 +25,7 @@ pub record Run : Type 0 where
 
 -- the run gives that back, and leaves those data
 unfoldable pub Gives : Run → Type 0
-Gives c = runOf (c .code) (c .given) (c .area) (c .budget) ≡ record { ran = c .back; area = c .left }
+Gives c = runOf (fixedTo (c .code)) (c .given) (c .area) (c .budget) ≡ record { ran = c .back; area = c .left }
 
 -- a run that uses up its budget, and ends with this machine and these data
 abbrev pub ends : List ℕ → Lent → List ℕ → ℕ → Lent → List ℕ → Run

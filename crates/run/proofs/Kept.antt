@@ -12,9 +12,9 @@ use Rattle.blockcheck.specs.Blocks.{codeBase}
 use Rattle.plan.specs.Plans.{planOf}
 use Rattle.effect.proofs.Ways.{regs-kept}
 use Rattle.run.specs.declared.Lent.{Lent}
-use Rattle.run.specs.Steps.{Moved, next, stop, home, inside, executed, stepOf}
+use Rattle.run.specs.Steps.{Fixed, Moved, next, stop, home, inside, executed, stepOf}
 use Rattle.run.proofs.Planned.{Comes, goes-on, planned-comes}
-use Rattle.run.specs.Runs.{Ended, onMoved, runFrom, refusal, opened, closed, taken, refused, runOf, Kept}
+use Rattle.run.specs.Runs.{Ended, onMoved, runFrom, refusalOf, opened, closed, taken, refused, runOf, Kept}
 
 -- what a step moves to keeps both
 pub data Keeps (m : Machine) (d : List ℕ) : Moved → Type 0 where
@@ -36,20 +36,20 @@ executed-keeps Found.Cut m d = stops
 executed-keeps Found.Unknown m d = stops
 
 -- a step keeps both
-pub step-keeps : (code : List ℕ) (m : Machine) (d : List ℕ) → Keeps m d (stepOf code m d)
+pub step-keeps : (fixed : Fixed) (m : Machine) (d : List ℕ) → Keeps m d (stepOf fixed m d)
 unfolding stepOf
-step-keeps code m d =
+step-keeps fixed m d =
     either m d (eqb (m .eip) home) stops
-    (either m d (inside code (m .eip)) (executed-keeps (decodeOf code (m .eip - codeBase)) m d) stops)
+    (either m d (inside (fixed .code) (m .eip)) (executed-keeps (decodeOf (fixed .code) (m .eip - codeBase)) m d) stops)
 
 -- and so do the steps of a run
-pub run-keeps : (code : List ℕ) (b : ℕ) (m : Machine) (d : List ℕ) (k : ℕ) → Kept m d ((runFrom code b m d k) .machine) ((runFrom code b m d k) .area)
+pub run-keeps : (fixed : Fixed) (b : ℕ) (m : Machine) (d : List ℕ) (k : ℕ) → Kept m d ((runFrom fixed b m d k) .machine) ((runFrom fixed b m d k) .area)
 unfolding runFrom onMoved
-run-keeps code zero m d k = record { registers = refl; long = refl }
-run-keeps code (suc b) m d k = by (stepOf code m d) (step-keeps code m d) (λ m′ d′. run-keeps code b m′ d′ (suc k))
+run-keeps fixed zero m d k = record { registers = refl; long = refl }
+run-keeps fixed (suc b) m d k = by (stepOf fixed m d) (step-keeps fixed m d) (λ m′ d′. run-keeps fixed b m′ d′ (suc k))
   where
     go : Machine → List ℕ → Ended
-    go m′ d′ = runFrom code b m′ d′ (suc k)
+    go m′ d′ = runFrom fixed b m′ d′ (suc k)
 
     end : ℕ → ℕ → Ended
     end n a = record { machine = m; area = d; steps = k; number = n; address = a }
@@ -61,10 +61,10 @@ run-keeps code (suc b) m d k = by (stepOf code m d) (step-keeps code m d) (λ m�
     by (stop n a) stops after = record { registers = refl; long = refl }
 
 -- a run hands back as many registers as it was lent
-pub registers-kept : (code : List ℕ) (l : Lent) (d : List ℕ) (b : ℕ) → length ((runOf code l d b) .ran .machine .regs) ≡ length (l .regs)
+pub registers-kept : (fixed : Fixed) (l : Lent) (d : List ℕ) (b : ℕ) → length ((runOf fixed l d b) .ran .machine .regs) ≡ length (l .regs)
 unfolding runOf taken refused opened closed
-registers-kept code l d b = by (eqb (refusal (length code) (length d) (l .word) b) 0)
+registers-kept fixed l d b = by (eqb (refusalOf fixed d (l .word) b) 0)
   where
-    by : (t : Bool) → length ((cond t (taken (runFrom code b (opened l) d 0)) (refused l d (refusal (length code) (length d) (l .word) b))) .ran .machine .regs) ≡ length (l .regs)
-    by true = (run-keeps code b (opened l) d 0) .registers
+    by : (t : Bool) → length ((cond t (taken (runFrom fixed b (opened l) d 0)) (refused l d (refusalOf fixed d (l .word) b))) .ran .machine .regs) ≡ length (l .regs)
+    by true = (run-keeps fixed b (opened l) d 0) .registers
     by false = refl

@@ -12,8 +12,8 @@ use Rattle.flags.specs.Word.{wordOf, passes}
 use Rattle.flags.proofs.RoundTrips.{unpacked, word-passes}
 use Rattle.machine.specs.declared.registers.Machine.{Machine}
 use Rattle.run.specs.declared.Lent.{Lent}
-use Rattle.run.specs.Steps.{Moved, next, stop, stepOf}
-use Rattle.run.specs.Runs.{Ended, onMoved, runFrom, refusal, opened, closed, taken, refused, runOf}
+use Rattle.run.specs.Steps.{Fixed, Moved, next, stop, stepOf}
+use Rattle.run.specs.Runs.{Ended, onMoved, runFrom, refusal, refusalOf, opened, closed, taken, refused, runOf}
 use Rattle.run.specs.Pausing.{Joined}
 use Rattle.run.proofs.Kept.{run-keeps}
 
@@ -28,15 +28,15 @@ later k e =
       address = e .address;
     }
 
-module _ (code : List ℕ) where
+module _ (fixed : Fixed) where
   -- where the count starts changes nothing but the count
-  counted : (b : ℕ) (m : Machine) (d : List ℕ) (k : ℕ) → runFrom code b m d k ≡ later k (runFrom code b m d 0)
+  counted : (b : ℕ) (m : Machine) (d : List ℕ) (k : ℕ) → runFrom fixed b m d k ≡ later k (runFrom fixed b m d 0)
   unfolding runFrom onMoved
   counted zero m d k = rw (add-zero k)
-  counted (suc b) m d k = by (stepOf code m d) (λ m′ d′ j. counted b m′ d′ j)
+  counted (suc b) m d k = by (stepOf fixed m d) (λ m′ d′ j. counted b m′ d′ j)
     where
       go : ℕ → Machine → List ℕ → Ended
-      go j m′ d′ = runFrom code b m′ d′ j
+      go j m′ d′ = runFrom fixed b m′ d′ j
 
       end : ℕ → ℕ → ℕ → Ended
       end j n a = record { machine = m; area = d; steps = j; number = n; address = a }
@@ -51,38 +51,39 @@ module _ (code : List ℕ) where
 
   -- n steps and then m, at least 1, as n + m
   joined : (n m : ℕ) → 0 < m → (M : Machine) (d : List ℕ) (k : ℕ)
-      → runFrom code (n + m) M d k
-      ≡ runFrom code m ((runFrom code n M d k) .machine) ((runFrom code n M d k) .area) ((runFrom code n M d k) .steps)
+      → runFrom fixed (n + m) M d k
+      ≡ runFrom fixed m ((runFrom fixed n M d k) .machine) ((runFrom fixed n M d k) .area) ((runFrom fixed n M d k) .steps)
   unfolding runFrom onMoved
   joined zero m h M d k = rw zero-add
-  joined (suc n) m h M d k = rw suc-add (by (stepOf code M d) refl (λ m′ d′. joined n m h m′ d′ (suc k)))
+  joined (suc n) m h M d k = rw suc-add (by (stepOf fixed M d) refl (λ m′ d′. joined n m h m′ d′ (suc k)))
     where
       end : ℕ → ℕ → Ended
       end n a = record { machine = M; area = d; steps = k; number = n; address = a }
 
       go : ℕ → Machine → List ℕ → Ended
-      go b m′ d′ = runFrom code b m′ d′ (suc k)
+      go b m′ d′ = runFrom fixed b m′ d′ (suc k)
 
-      again : (m : ℕ) → 0 < m → {j a : ℕ} → stepOf code M d ≡ stop j a → end j a ≡ runFrom code m M d k
+      again : (m : ℕ) → 0 < m → {j a : ℕ} → stepOf fixed M d ≡ stop j a → end j a ≡ runFrom fixed m M d k
       again zero h e = absurd (let z = h in omega arith)
       again (suc m) h e = rw e
 
-      by : (v : Moved) → stepOf code M d ≡ v
-          → ((m′ : Machine) (d′ : List ℕ) → go (n + m) m′ d′ ≡ runFrom code m ((go n m′ d′) .machine) ((go n m′ d′) .area) ((go n m′ d′) .steps))
+      by : (v : Moved) → stepOf fixed M d ≡ v
+          → ((m′ : Machine) (d′ : List ℕ) → go (n + m) m′ d′ ≡ runFrom fixed m ((go n m′ d′) .machine) ((go n m′ d′) .area) ((go n m′ d′) .steps))
           → onMoved v (go (n + m)) end
-          ≡ runFrom code m ((onMoved v (go n) end) .machine) ((onMoved v (go n) end) .area) ((onMoved v (go n) end) .steps)
+          ≡ runFrom fixed m ((onMoved v (go n) end) .machine) ((onMoved v (go n) end) .area) ((onMoved v (go n) end) .steps)
       by (next m′ d′) e from = from m′ d′
       by (stop j a) e from = again m h e
 
 -- a budget within the limit refuses nothing
-within : (c a w b : ℕ) → b ≤ 1_000_000 → refusal c a w b ≡ refusal c a w 0
+within : (fixed : Fixed) (d : List ℕ) (w b : ℕ) → b ≤ 1_000_000 → refusalOf fixed d w b ≡ refusalOf fixed d w 0
 unfolding refusal
-within c a w b h = rw (le-ltb 1_000_000 b h)
+within fixed d w b h = rw (le-ltb 1_000_000 b h)
 
--- what is not refused with one flags word is not with another that passes
-passing : (c a w w′ : ℕ) → refusal c a w 0 ≡ 0 → passes w′ ≡ true → refusal c a w′ 0 ≡ 0
+-- what is not refused with one flags word is not with another that passes, and data as long
+passing : (fixed : Fixed) (d d′ : List ℕ) (w w′ : ℕ) → length d′ ≡ length d → refusalOf fixed d w 0 ≡ 0 → passes w′ ≡ true → refusalOf fixed d′ w′ 0 ≡ 0
 unfolding refusal
-passing c a w w′ = by (eqb c 0 || ltb 65_536 c) (ltb 65_536 a) (passes w) (passes w′)
+passing fixed d d′ w w′ long =
+    rw long (by (eqb (length (fixed .code)) 0 || ltb 65_536 (length (fixed .code))) (ltb 65_536 (length d)) (passes w) (passes w′))
   where
     by : (x y z z′ : Bool) → _≡_ {A = ℕ} (cond x 10 (cond y 11 (cond (not z) 12 0))) 0 → z′ ≡ true
         → _≡_ {A = ℕ} (cond x 10 (cond y 11 (cond (not z′) 12 0))) 0
@@ -95,58 +96,57 @@ reopened : (m : Machine) → opened (closed m) ≡ m
 unfolding opened closed
 reopened m = rw (unpacked (m .flags))
 
-module _ (code : List ℕ) (l : Lent) (d : List ℕ) (b : ℕ) (small : b ≤ 1_000_000) where
+module _ (fixed : Fixed) (l : Lent) (d : List ℕ) (b : ℕ) (small : b ≤ 1_000_000) where
   -- a run that is not refused takes its steps
-  runs : refusal (length code) (length d) (l .word) 0 ≡ 0 → runOf code l d b ≡ taken (runFrom code b (opened l) d 0)
+  runs : refusalOf fixed d (l .word) 0 ≡ 0 → runOf fixed l d b ≡ taken (runFrom fixed b (opened l) d 0)
   unfolding runOf
-  runs h = rw (within (length code) (length d) (l .word) b small, h)
+  runs h = rw (within fixed d (l .word) b small, h)
 
   -- a run that is refused whatever the budget
-  refuses : (refusal (length code) (length d) (l .word) 0 ≡ 0 → ⊥)
-      → runOf code l d b ≡ refused l d (refusal (length code) (length d) (l .word) 0)
+  refuses : (refusalOf fixed d (l .word) 0 ≡ 0 → ⊥)
+      → runOf fixed l d b ≡ refused l d (refusalOf fixed d (l .word) 0)
   unfolding runOf
-  refuses h = rw (within (length code) (length d) (l .word) b small, ne-eqb _ _ h)
+  refuses h = rw (within fixed d (l .word) b small, ne-eqb _ _ h)
 
 -- a refusal changes nothing: the machine and the data as handed in, 0 steps, address 0
-pub refusal-changes-nothing : (code : List ℕ) (l : Lent) (d : List ℕ) (b : ℕ)
-    → (refusal (length code) (length d) (l .word) b ≡ 0 → ⊥)
-    → runOf code l d b ≡ refused l d (refusal (length code) (length d) (l .word) b)
+pub refusal-changes-nothing : (fixed : Fixed) (l : Lent) (d : List ℕ) (b : ℕ)
+    → (refusalOf fixed d (l .word) b ≡ 0 → ⊥)
+    → runOf fixed l d b ≡ refused l d (refusalOf fixed d (l .word) b)
 unfolding runOf
-refusal-changes-nothing code l d b h = rw (ne-eqb (refusal (length code) (length d) (l .word) b) 0 h)
+refusal-changes-nothing fixed l d b h = rw (ne-eqb (refusalOf fixed d (l .word) b) 0 h)
 
-module _ (code : List ℕ) (l : Lent) (d : List ℕ) (n m : ℕ) (some : 0 < m) (small : n + m ≤ 1_000_000) where
+module _ (fixed : Fixed) (l : Lent) (d : List ℕ) (n m : ℕ) (some : 0 < m) (small : n + m ≤ 1_000_000) where
   -- what the first n steps end with
   abbrev first-end : Ended
-  first-end = runFrom code n (opened l) d 0
+  first-end = runFrom fixed n (opened l) d 0
 
   -- neither part is refused
-  both-taken : refusal (length code) (length d) (l .word) 0 ≡ 0
-      → Joined (taken first-end) (runOf code (closed (first-end .machine)) (first-end .area) m) (runOf code l d (n + m))
+  both-taken : refusalOf fixed d (l .word) 0 ≡ 0
+      → Joined (taken first-end) (runOf fixed (closed (first-end .machine)) (first-end .area) m) (runOf fixed l d (n + m))
   unfolding taken closed
   both-taken h =
       let e = first-end in
-      let long = (run-keeps code n (opened l) d 0) .long in
-      let passed : refusal (length code) (length (e .area)) (wordOf (e .machine .flags)) 0 ≡ 0
-      = rw long (passing (length code) (length d) (l .word) (wordOf (e .machine .flags)) h (word-passes (e .machine .flags))) in
+      let passed : refusalOf fixed (e .area) (wordOf (e .machine .flags)) 0 ≡ 0
+      = passing fixed d (e .area) (l .word) (wordOf (e .machine .flags)) ((run-keeps fixed n (opened l) d 0) .long) h (word-passes (e .machine .flags)) in
       rw (
-        runs code l d (n + m) small h,
-        runs code (closed (e .machine)) (e .area) m (omega arith) passed,
+        runs fixed l d (n + m) small h,
+        runs fixed (closed (e .machine)) (e .area) m (omega arith) passed,
         reopened (e .machine),
-        joined code n m some (opened l) d 0,
-        counted code m (e .machine) (e .area) (e .steps),
+        joined fixed n m some (opened l) d 0,
+        counted fixed m (e .machine) (e .area) (e .steps),
       )
       (record { machine = refl; area = refl; number = refl; address = refl; steps = refl })
 
   -- n steps and then m, m at least 1 and n + m within the limit, end as n + m steps do
-  pub law : Joined (runOf code l d n) (runOf code ((runOf code l d n) .ran .machine) ((runOf code l d n) .area) m) (runOf code l d (n + m))
+  pub law : Joined (runOf fixed l d n) (runOf fixed ((runOf fixed l d n) .ran .machine) ((runOf fixed l d n) .area) m) (runOf fixed l d (n + m))
   unfolding taken refused
-  law = by (refusal (length code) (length d) (l .word) 0) refl
+  law = by (refusalOf fixed d (l .word) 0) refl
     where
-      by : (r : ℕ) → refusal (length code) (length d) (l .word) 0 ≡ r
-          → Joined (runOf code l d n) (runOf code ((runOf code l d n) .ran .machine) ((runOf code l d n) .area) m) (runOf code l d (n + m))
-      by zero e = rw (runs code l d n (omega arith) e) (both-taken e)
+      by : (r : ℕ) → refusalOf fixed d (l .word) 0 ≡ r
+          → Joined (runOf fixed l d n) (runOf fixed ((runOf fixed l d n) .ran .machine) ((runOf fixed l d n) .area) m) (runOf fixed l d (n + m))
+      by zero e = rw (runs fixed l d n (omega arith) e) (both-taken e)
       by (suc r) e =
-          let away : refusal (length code) (length d) (l .word) 0 ≡ 0 → ⊥ = λ z. let q : suc r ≡ 0 = sym e ∙ z in omega arith in
-          rw (refuses code l d n (omega arith) away)
-          (rw (refuses code l d m (omega arith) away, refuses code l d (n + m) small away)
+          let away : refusalOf fixed d (l .word) 0 ≡ 0 → ⊥ = λ z. let q : suc r ≡ 0 = sym e ∙ z in omega arith in
+          rw (refuses fixed l d n (omega arith) away)
+          (rw (refuses fixed l d m (omega arith) away, refuses fixed l d (n + m) small away)
           (record { machine = refl; area = refl; number = refl; address = refl; steps = refl }))

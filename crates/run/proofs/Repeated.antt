@@ -28,15 +28,15 @@ use Rattle.effect.specs.Branches.{ecx}
 use Rattle.effect.specs.Strings.{idle, stringReads, stringEffect}
 use Rattle.effect.specs.All.{readsBy, effectBy}
 use Rattle.effect.proofs.Repeats.{none-left, counts, as-many, goes-on}
-use Rattle.run.specs.Steps.{next, committed, finished, performed, operandAddress, planned, executed, stepOf}
+use Rattle.run.specs.Steps.{Fixed, next, committed, finished, performed, operandAddress, planned, executed, stepOf}
 use Rattle.run.specs.Runs.{onMoved, runFrom}
 use Rattle.run.proofs.Planned.{planned-goes}
 use Rattle.run.specs.Repetitions.{After, here, on, Repeating, Left, Over, stepsFor}
 use Rattle.run.proofs.Unreadable.{step-found}
 
 -- a run with them in its budget has done them, and goes on from there
-pub runs-on : {code : List ℕ} {k : ℕ} {m m′ : Machine} {d d′ : List ℕ} → After code k m d m′ d′ → (b done : ℕ)
-    → runFrom code (k + b) m d done ≡ runFrom code b m′ d′ (k + done)
+pub runs-on : {fixed : Fixed} {k : ℕ} {m m′ : Machine} {d d′ : List ℕ} → After fixed k m d m′ d′ → (b done : ℕ)
+    → runFrom fixed (k + b) m d done ≡ runFrom fixed b m′ d′ (k + done)
 unfolding runFrom onMoved
 runs-on here b done =
     let budget : 0 + b ≡ b = omega arith in
@@ -57,9 +57,9 @@ pub record Round (i : Decoded) (m m′ : Machine) (n : ℕ) : Type 0 where
   pub many : length (m′ .regs) ≡ 8
   pub place : m′ .eip ≡ cond (eqb n 0) ((planOf (m .eip) i) .next) (m .eip)
 
-module _ {code : List ℕ} {i : Decoded} {op : Strings} {m : Machine} (at : Repeating code i op m) where
+module _ {fixed : Fixed} {i : Decoded} {op : Strings} {m : Machine} (at : Repeating (fixed .code) i op m) where
   -- a machine with the same EIP is at the instruction too
-  still : {m′ : Machine} → m′ .eip ≡ m .eip → length (m′ .regs) ≡ 8 → Repeating code i op m′
+  still : {m′ : Machine} → m′ .eip ≡ m .eip → length (m′ .regs) ≡ 8 → Repeating (fixed .code) i op m′
   still {m′} place eight =
       record {
         place =
@@ -79,8 +79,8 @@ module _ {code : List ℕ} {i : Decoded} {op : Strings} {m : Machine} (at : Repe
   pub next-elsewhere : (planOf (m .eip) i) .next ≡ m .eip → ⊥
   unfolding planOf planFor nextOf rest residue modulus bits
   next-elsewhere e =
-      let some = found-standing code (m .eip - codeBase) i (at .found) .some in
-      let few = found-eleven code (m .eip - codeBase) i (at .found) in
+      let some = found-standing (fixed .code) (m .eip - codeBase) i (at .found) .some in
+      let few = found-eleven (fixed .code) (m .eip - codeBase) i (at .found) in
       omega arith
 
   -- the effect is that of the string operation
@@ -96,12 +96,12 @@ module _ {code : List ℕ} {i : Decoded} {op : Strings} {m : Machine} (at : Repe
 
   module _ (d : List ℕ) where
     -- the step is that of the plan
-    is-planned : stepOf code m d ≡ planned (planOf (m .eip) i) m d
+    is-planned : stepOf fixed m d ≡ planned (planOf (m .eip) i) m d
     unfolding executed
-    is-planned = step-found code m d (at .place) ∙ rw (at .found)
+    is-planned = step-found fixed m d (at .place) ∙ rw (at .found)
 
     -- if ECX is 0, one step that only moves EIP on
-    pub only-moves-on : register m ecx ≡ 0 → stepOf code m d ≡ next (withEip m ((planOf (m .eip) i) .next)) d
+    pub only-moves-on : register m ecx ≡ 0 → stepOf fixed m d ≡ next (withEip m ((planOf (m .eip) i) .next)) d
     unfolding planned performed finished committed becomes onward
     only-moves-on none =
         let p = planOf (m .eip) i in
@@ -110,7 +110,7 @@ module _ {code : List ℕ} {i : Decoded} {op : Strings} {m : Machine} (at : Repe
 
     -- otherwise a step that is not stopped does one round, ECX less 1
     pub one-round : {n : ℕ} {m′ : Machine} {d′ : List ℕ} → register m ecx ≡ suc n → register m ecx < 2 ^ 32
-        → stepOf code m d ≡ next m′ d′ → Round i m m′ n
+        → stepOf fixed m d ≡ next m′ d′ → Round i m m′ n
     one-round {n} count bound e =
         let p = planOf (m .eip) i in
         let done = planned-goes p m d (sym is-planned ∙ e) in
@@ -125,16 +125,16 @@ module _ {code : List ℕ} {i : Decoded} {op : Strings} {m : Machine} (at : Repe
 
     -- one that is not the last leaves EIP at the instruction
     not-last : {m′ : Machine} {d′ : List ℕ} (n : ℕ) → register m ecx ≡ suc (suc n) → register m ecx < 2 ^ 32
-        → stepOf code m d ≡ next m′ d′ → Left code i op m m′ (suc n)
+        → stepOf fixed m d ≡ next m′ d′ → Left (fixed .code) i op m m′ (suc n)
     not-last n count bound e =
         let round = one-round count bound e in
         let place = rw (ne-eqb (suc n) 0 (λ z. omega arith)) at (round .place) in
         record { again = still place (round .many); place = place; count = round .count }
 
-module _ {code : List ℕ} {i : Decoded} {op : Strings} where
+module _ {fixed : Fixed} {i : Decoded} {op : Strings} where
   -- after k steps, fewer than n, from ECX = n
-  rounds-left : {m m′ : Machine} {d d′ : List ℕ} {n k : ℕ} → Repeating code i op m → register m ecx ≡ n → n < 2 ^ 32
-      → After code k m d m′ d′ → k < n → Left code i op m m′ (n - k)
+  rounds-left : {m m′ : Machine} {d d′ : List ℕ} {n k : ℕ} → Repeating (fixed .code) i op m → register m ecx ≡ n → n < 2 ^ 32
+      → After fixed k m d m′ d′ → k < n → Left (fixed .code) i op m m′ (n - k)
   rounds-left at count bound here h = record { again = at; place = refl; count = omega arith }
   rounds-left {d} {n} {k = suc k} at count bound (on e more) h =
       let one = not-last at d (n - 2) (omega arith) (omega arith) e in
@@ -142,8 +142,8 @@ module _ {code : List ℕ} {i : Decoded} {op : Strings} where
       record { again = later .again; place = later .place ∙ one .place; count = omega (arith, later .count) }
 
   -- after as many steps as ECX says, at least one
-  rounds-over : {m m′ : Machine} {d d′ : List ℕ} {n : ℕ} → Repeating code i op m → register m ecx ≡ suc n → suc n < 2 ^ 32
-      → After code (suc n) m d m′ d′ → Over i m m′
+  rounds-over : {m m′ : Machine} {d d′ : List ℕ} {n : ℕ} → Repeating (fixed .code) i op m → register m ecx ≡ suc n → suc n < 2 ^ 32
+      → After fixed (suc n) m d m′ d′ → Over i m m′
   rounds-over {d} at count bound (on e here) =
       let round = one-round at d count (omega arith) e in
       record { place = round .place; count = round .count }
@@ -153,16 +153,16 @@ module _ {code : List ℕ} {i : Decoded} {op : Strings} where
       record { place = later .place ∙ ap (λ (p : Plan). p .next) (same-plan m m₁ i (one .place)); count = later .count }
 
   -- after k of the steps for ECX = n, and not yet all, EIP is still at the instruction, with ECX = n - k
-  pub stays-before : {m m′ : Machine} {d d′ : List ℕ} (n : ℕ) {k : ℕ} → Repeating code i op m → register m ecx ≡ n → n < 2 ^ 32
-      → After code k m d m′ d′ → k < stepsFor n → Left code i op m m′ (n - k)
+  pub stays-before : {m m′ : Machine} {d d′ : List ℕ} (n : ℕ) {k : ℕ} → Repeating (fixed .code) i op m → register m ecx ≡ n → n < 2 ^ 32
+      → After fixed k m d m′ d′ → k < stepsFor n → Left (fixed .code) i op m m′ (n - k)
   unfolding stepsFor
   stays-before zero at count bound here h = record { again = at; place = refl; count = count }
   stays-before zero at count bound (on e more) h = absurd (omega arith)
   stays-before (suc n) at count bound steps h = rounds-left at count bound steps h
 
   -- after them all the repetition is over
-  pub over-after : {m m′ : Machine} {d d′ : List ℕ} (n : ℕ) → Repeating code i op m → register m ecx ≡ n → n < 2 ^ 32
-      → After code (stepsFor n) m d m′ d′ → Over i m m′
+  pub over-after : {m m′ : Machine} {d d′ : List ℕ} (n : ℕ) → Repeating (fixed .code) i op m → register m ecx ≡ n → n < 2 ^ 32
+      → After fixed (stepsFor n) m d m′ d′ → Over i m m′
   unfolding stepsFor register withEip
   over-after {m} {m′} {d} zero at count bound (on e here) =
       let moved = only-moves-on at d count in
@@ -171,8 +171,8 @@ module _ {code : List ℕ} {i : Decoded} {op : Strings} where
   over-after (suc n) at count bound steps = rounds-over at count bound steps
 
   -- so exactly these steps are taken at the instruction: up to them all, EIP is there exactly before the last is done
-  pub exactly-steps : {m m′ : Machine} {d d′ : List ℕ} (n : ℕ) {k : ℕ} → Repeating code i op m → register m ecx ≡ n → n < 2 ^ 32
-      → After code k m d m′ d′ → k ≤ stepsFor n → (m′ .eip ≡ m .eip) ↔ (k < stepsFor n)
+  pub exactly-steps : {m m′ : Machine} {d d′ : List ℕ} (n : ℕ) {k : ℕ} → Repeating (fixed .code) i op m → register m ecx ≡ n → n < 2 ^ 32
+      → After fixed k m d m′ d′ → k ≤ stepsFor n → (m′ .eip ≡ m .eip) ↔ (k < stepsFor n)
   exactly-steps n at count bound steps within = (
     λ still-there. ⊎-elim
         (λ all. absurd (next-elsewhere at (sym (over-after n at count bound (rw all at steps) .place) ∙ still-there)))

@@ -16,13 +16,13 @@ use Rattle.blockcheck.specs.Blocks.{codeBase}
 use Rattle.plan.specs.Plans.{planOf}
 use Rattle.run.specs.declared.site.Site.{Site}
 use Rattle.run.specs.declared.step.Stepped.{Stepped}
-use Rattle.run.specs.Steps.{stop, home, planned, executed, stepOf, Steps}
+use Rattle.run.specs.Steps.{fixedTo, stop, home, planned, executed, stepOf, Steps}
 use Rattle.run.specs.Sites.{siteStep, Stops, Tells}
 use Rattle.run.proofs.Places.{at-home, below-code, past-code, in-code}
 
 module _ (code : List ℕ) (eip : ℕ) where
   -- a site that stops with a number tells the steps that do
-  tells-stop : {number : ℕ} {s : Site} → Stops eip number s → ((m : Machine) (d : List ℕ) → m .eip ≡ eip → stepOf code m d ≡ stop number (m .eip))
+  tells-stop : {number : ℕ} {s : Site} → Stops eip number s → ((m : Machine) (d : List ℕ) → m .eip ≡ eip → stepOf (fixedTo code) m d ≡ stop number (m .eip))
       → Tells code eip s
   unfolding siteStep
   tells-stop stops steps =
@@ -30,22 +30,22 @@ module _ (code : List ℕ) (eip : ℕ) where
 
   -- 1: EIP is home
   pub tells-home : {s : Site} → Stops eip 1 s → eip ≡ home → Tells code eip s
-  tells-home stops h = tells-stop stops (λ m d e. at-home code m d (e ∙ h))
+  tells-home stops h = tells-stop stops (λ m d e. at-home (fixedTo code) m d (e ∙ h))
 
   module _ (away : eip ≡ home → ⊥) where
     -- 2: EIP below the code
     pub tells-below : {s : Site} → Stops eip 2 s → eip < codeBase → Tells code eip s
-    tells-below stops low = tells-stop stops (λ m d e. below-code code m d (λ z. away (sym e ∙ z)) (rw e low))
+    tells-below stops low = tells-stop stops (λ m d e. below-code (fixedTo code) m d (λ z. away (sym e ∙ z)) (rw e low))
 
     module _ (low : codeBase ≤ eip) where
       -- 2: EIP past the code
       pub tells-past : {s : Site} → Stops eip 2 s → length code ≤ eip - codeBase → Tells code eip s
-      tells-past stops high = tells-stop stops (λ m d e. past-code code m d (λ z. away (sym e ∙ z)) (rw e low) (rw e high))
+      tells-past stops high = tells-stop stops (λ m d e. past-code (fixedTo code) m d (λ z. away (sym e ∙ z)) (rw e low) (rw e high))
 
       module _ (high : eip - codeBase < length code) where
         -- a step inside the code is that of what is found there
-        found : (f : Found) → decodeOf code (eip - codeBase) ≡ f → (m : Machine) (d : List ℕ) → m .eip ≡ eip → stepOf code m d ≡ executed f m d
-        found f is m d e = in-code code m d (λ z. away (sym e ∙ z)) (rw e low) (rw e high) ∙ rw (e, is)
+        found : (f : Found) → decodeOf code (eip - codeBase) ≡ f → (m : Machine) (d : List ℕ) → m .eip ≡ eip → stepOf (fixedTo code) m d ≡ executed f m d
+        found f is m d e = in-code (fixedTo code) m d (λ z. away (sym e ∙ z)) (rw e low) (rw e high) ∙ rw (e, is)
 
         -- 3: cut
         pub tells-cut : {s : Site} → Stops eip 3 s → decodeOf code (eip - codeBase) ≡ Found.Cut → Tells code eip s
@@ -66,7 +66,7 @@ module _ (code : List ℕ) (eip : ℕ) where
 
 -- the step of a site that tells them is the step
 pub taken : {code : List ℕ} {eip : ℕ} {s : Site} → Tells code eip s → {m : Machine} {d after : List ℕ} {r : Stepped} → m .eip ≡ eip
-    → Steps (siteStep s m d) m d r after → Steps (stepOf code m d) m d r after
+    → Steps (siteStep s m d) m d r after → Steps (stepOf (fixedTo code) m d) m d r after
 taken t {m} {d} at steps = rw (t .is m d at) steps
 
 -- a site that has a plan tells each step at its EIP

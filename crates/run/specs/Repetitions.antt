@@ -16,14 +16,14 @@ use Rattle.sense.specs.declared.Operation.{Operation}
 use Rattle.plan.specs.Plans.{planOf}
 use Rattle.effect.specs.Branches.{ecx}
 use Rattle.effect.specs.Strings.{compares}
-use Rattle.run.specs.Steps.{next, stepOf}
+use Rattle.run.specs.Steps.{Fixed, next, stepOf}
 use Rattle.run.specs.Standing.{InCode}
 
 -- so many steps, none of which stops, lead from a machine and data to others
-pub data After (code : List ℕ) : ℕ → Machine → List ℕ → Machine → List ℕ → Type 0 where
-  here : {m : Machine} {d : List ℕ} → After code 0 m d m d
-  on : {k : ℕ} {m m₁ m₂ : Machine} {d d₁ d₂ : List ℕ} → stepOf code m d ≡ next m₁ d₁ → After code k m₁ d₁ m₂ d₂
-      → After code (suc k) m d m₂ d₂
+pub data After (fixed : Fixed) : ℕ → Machine → List ℕ → Machine → List ℕ → Type 0 where
+  here : {m : Machine} {d : List ℕ} → After fixed 0 m d m d
+  on : {k : ℕ} {m m₁ m₂ : Machine} {d d₁ d₂ : List ℕ} → stepOf fixed m d ≡ next m₁ d₁ → After fixed k m₁ d₁ m₂ d₂
+      → After fixed (suc k) m d m₂ d₂
 
 -- EIP is at MOVS, STOS or LODS under F3, in a machine of eight registers
 pub record Repeating (code : List ℕ) (i : Decoded) (op : Strings) (m : Machine) : Type 0 where

@@ -10,7 +10,7 @@ use Rattle.machine.specs.declared.registers.Machine.{Machine}
 use Rattle.run.specs.declared.End.{End}
 use Rattle.run.specs.declared.Lent.{Lent}
 use Rattle.run.specs.declared.Ran.{Ran}
-use Rattle.run.specs.Steps.{Moved, next, stop, stepOf}
+use Rattle.run.specs.Steps.{Fixed, Moved, next, stop, stepOf}
 
 -- what a run of steps ends with
 pub record Ended : Type 0 where
@@ -31,10 +31,10 @@ onMoved (next m d) go end = go m d
 onMoved (stop n a) go end = end n a
 
 -- so many steps at the most, k being done: with 0 left the number is 0, and nothing further is looked at
-unfoldable pub runFrom : List ℕ → ℕ → Machine → List ℕ → ℕ → Ended
-runFrom code zero m d k = record { machine = m; area = d; steps = k; number = 0; address = m .eip }
-runFrom code (suc b) m d k =
-    onMoved (stepOf code m d) (λ m′ d′. runFrom code b m′ d′ (suc k))
+unfoldable pub runFrom : Fixed → ℕ → Machine → List ℕ → ℕ → Ended
+runFrom fixed zero m d k = record { machine = m; area = d; steps = k; number = 0; address = m .eip }
+runFrom fixed (suc b) m d k =
+    onMoved (stepOf fixed m d) (λ m′ d′. runFrom fixed b m′ d′ (suc k))
     (λ n a. record { machine = m; area = d; steps = k; number = n; address = a })
 
 -- the number that a run is refused with, 0 if it is not: code length, data length, flags word, budget, in that order
@@ -42,6 +42,10 @@ unfoldable pub refusal : ℕ → ℕ → ℕ → ℕ → ℕ
 refusal code-length data-length word budget =
     cond (eqb code-length 0 || ltb 65_536 code-length) 10
     (cond (ltb 65_536 data-length) 11 (cond (not (passes word)) 12 (cond (ltb 1_000_000 budget) 13 0)))
+
+-- the same of a run over these areas
+abbrev pub refusalOf : Fixed → List ℕ → ℕ → ℕ → ℕ
+refusalOf fixed d word budget = refusal (length (fixed .code)) (length d) word budget
 
 -- the lent machine, with its flags taken apart
 unfoldable pub opened : Lent → Machine
@@ -74,10 +78,10 @@ unfoldable pub refused : Lent → List ℕ → ℕ → HandedBack
 refused l d n = record { ran = record { machine = l; steps = 0; number = n; address = 0 }; area = d }
 
 -- a run of a block
-unfoldable pub runOf : List ℕ → Lent → List ℕ → ℕ → HandedBack
-runOf code l d budget =
-    cond (eqb (refusal (length code) (length d) (l .word) budget) 0) (taken (runFrom code budget (opened l) d 0))
-    (refused l d (refusal (length code) (length d) (l .word) budget))
+unfoldable pub runOf : Fixed → Lent → List ℕ → ℕ → HandedBack
+runOf fixed l d budget =
+    cond (eqb (refusalOf fixed d (l .word) budget) 0) (taken (runFrom fixed budget (opened l) d 0))
+    (refused l d (refusalOf fixed d (l .word) budget))
 
 -- a machine has as many registers as another, and its data are as long as the other's
 pub record Kept (m : Machine) (d : List ℕ) (m′ : Machine) (d′ : List ℕ) : Type 0 where

@@ -5,7 +5,7 @@ use mathlib.Core.List.{List}
 use Prim.Native.Nat.{ℕ}
 use Rattle.machine.specs.declared.registers.Machine.{Machine}
 use Rattle.run.specs.declared.site.Site.{Site}
-use Rattle.run.specs.Steps.{Moved, stop, planned, stepOf}
+use Rattle.run.specs.Steps.{fixedTo, Moved, stop, planned, stepOf}
 
 -- the step of a site: that of its plan, or a stop at EIP
 unfoldable pub siteStep : Site → Machine → List ℕ → Moved
@@ -20,4 +20,4 @@ pub record Stops (eip number : ℕ) (s : Site) : Type 0 where
 -- a site tells each step at an EIP
 pub record Tells (code : List ℕ) (eip : ℕ) (s : Site) : Type 0 where
   pub place : s .eip ≡ eip
-  pub is : (m : Machine) (d : List ℕ) → m .eip ≡ eip → stepOf code m d ≡ siteStep s m d
+  pub is : (m : Machine) (d : List ℕ) → m .eip ≡ eip → stepOf (fixedTo code) m d ≡ siteStep s m d

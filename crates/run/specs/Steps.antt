@@ -25,6 +25,14 @@ use Rattle.effect.specs.declared.outcome.Reads.the-variants.{Nothing, One, Two}
 use Rattle.effect.specs.All.{addressBy, readsBy, effectBy}
 use Rattle.run.specs.declared.step.Stepped.{Stepped}
 
+-- what all steps of a run share: the code, which is lent and never written
+pub record Fixed : Type 0 where
+  pub code : List ℕ
+
+-- the same by its parts
+abbrev pub fixedTo : List ℕ → Fixed
+fixedTo code = record { code = code }
+
 -- what a step comes to: the next machine and data, or a number and an address, and then nothing has changed
 pub data Moved : Type 0 where
   next : Machine → List ℕ → Moved
@@ -79,10 +87,10 @@ executed Found.Cut m d = stop 3 (m .eip)
 executed Found.Unknown m d = stop 4 (m .eip)
 
 -- 1: EIP is home; 2: EIP outside the code
-unfoldable pub stepOf : List ℕ → Machine → List ℕ → Moved
-stepOf code m d =
+unfoldable pub stepOf : Fixed → Machine → List ℕ → Moved
+stepOf fixed m d =
     cond (eqb (m .eip) home) (stop 1 (m .eip))
-    (cond (inside code (m .eip)) (executed (decodeOf code (m .eip - codeBase)) m d) (stop 2 (m .eip)))
+    (cond (inside (fixed .code) (m .eip)) (executed (decodeOf (fixed .code) (m .eip - codeBase)) m d) (stop 2 (m .eip)))
 
 -- the step is done
 unfoldable pub movedTo : Machine → Stepped

@@ -8,6 +8,7 @@ use crate::site::stopping;
 use crate::site::take;
 use machine::registers::Machine;
 ghost use mathlib.Core.Path.{_≡_};
+ghost use Rattle.run.specs.Steps.{fixedTo};
 ghost use Rattle.run.specs.Runs.{Ends, Runs, runFrom, refusal, opened, closed, runOf};
 
 // The machine as the caller lends it, and gets it back: with the flags word.
@@ -57,7 +58,7 @@ fn refusal(code_length: usize, area_length: usize, word: u32, budget: u64) -> u3
 
 // So many steps at the most, until one stops. What a step takes from the code alone is kept by EIP modulo 64.
 fn steps(code: &[u8], m: Machine, area: &mut [u8], budget: u64) -> End
-    ensures { λ r. ⌜ Ends (runFrom (now (code .entry)) budget m (now (area .entry)) 0) r (now (area .exit)) ⌝ }
+    ensures { λ r. ⌜ Ends (runFrom (fixedTo (now (code .entry))) budget m (now (area .entry)) 0) r (now (area .exit)) ⌝ }
 {
     let none = stopping(0, 0);
     let mut kept = [none; 64];
@@ -118,7 +119,7 @@ fn close(m: Machine) -> Lent
 
 // A run of a block.
 pub fn run(l: Lent, code: &[u8], area: &mut [u8], budget: u64) -> Ran
-    ensures { λ r. ⌜ Runs (runOf (now (code .entry)) l (now (area .entry)) budget) r (now (area .exit)) ⌝ }
+    ensures { λ r. ⌜ Runs (runOf (fixedTo (now (code .entry))) l (now (area .entry)) budget) r (now (area .exit)) ⌝ }
 {
     let n = refusal(code.len(), area.len(), l.word, budget);
     if n == 0 {

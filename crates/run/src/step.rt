@@ -15,6 +15,7 @@ use width::Size;
 ghost use mathlib.Core.Path.{_≡_};
 ghost use Rattle.machine.specs.Memory.{loadOf};
 ghost use Rattle.run.specs.Steps.{
+  fixedTo,
   stoppedAt,
   movedTo,
   Steps,
@@ -156,7 +157,7 @@ pub fn follow(p: Plan, m: Machine, area: &mut [u8]) -> Stepped
 
 // One step.
 pub fn step(code: &[u8], m: Machine, area: &mut [u8]) -> Stepped
-    ensures { λ r. ⌜ Steps (stepOf (now (code .entry)) m (now (area .entry))) m (now (area .entry)) r (now (area .exit)) ⌝ }
+    ensures { λ r. ⌜ Steps (stepOf (fixedTo (now (code .entry))) m (now (area .entry))) m (now (area .entry)) r (now (area .exit)) ⌝ }
 {
     take(site_at(code, m.eip), m, area)
 }

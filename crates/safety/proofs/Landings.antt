@@ -25,7 +25,7 @@ use Rattle.blockcheck.proofs.Starts.{start-decodes, falls-through, displacement
 use Rattle.plan.specs.Plans.{planFor, planOf, nextOf, leads}
 use Rattle.effect.specs.declared.outcome.Effect.{Effect}
 use Rattle.effect.proofs.Ways.{Way, stays, falls, way}
-use Rattle.run.specs.Steps.{Moved, next, stop, home, inside, executed, stepOf}
+use Rattle.run.specs.Steps.{Fixed, Moved, next, stop, home, inside, executed, stepOf}
 use Rattle.run.proofs.Places.{at-home, in-code}
 use Rattle.safety.specs.Guidance.{Landed, at-start, outside, indirectFound, indirectAt, Readable}
 use Rattle.run.proofs.Planned.{Comes, goes-on, stops, planned-comes}
@@ -101,21 +101,21 @@ module _ {code : List ℕ} (ok : Acceptable code) (m : Machine) {i : ℕ} (start
       goes (λ direct. way-landed (way ((planOf (m .eip) x) .operation) m (planOf (m .eip) x) a r s (rw (place, found) at direct)))
   comes-safe (stops n low high) = halts (late n low)
 
-module _ {code : List ℕ} (ok : Acceptable code) (m : Machine) (d : List ℕ) where
+module _ {fixed : Fixed} (ok : Acceptable (fixed .code)) (m : Machine) (d : List ℕ) where
   -- outside the code a step stops with 1 or 2
-  outside-safe : inside code (m .eip) ≡ false → Safe code m (stepOf code m d)
+  outside-safe : inside (fixed .code) (m .eip) ≡ false → Safe (fixed .code) m (stepOf fixed m d)
   unfolding stepOf
-  outside-safe e = rw e (chosen (Safe code m) (eqb (m .eip) home) (halts (early 1 (omega arith))) (halts (early 2 (omega arith))))
+  outside-safe e = rw e (chosen (Safe (fixed .code) m) (eqb (m .eip) home) (halts (early 1 (omega arith))) (halts (early 2 (omega arith))))
 
   -- from a landed address every step is safe
-  pub step-safe : Landed code (m .eip) → Safe code m (stepOf code m d)
+  pub step-safe : Landed (fixed .code) (m .eip) → Safe (fixed .code) m (stepOf fixed m d)
   unfolding home codeBase executed
   step-safe (at-start {s} start at) =
       let (x, found, ends) = start-decodes start in
-      let some = (found-standing code s x found) .some in
+      let some = (found-standing (fixed .code) s x found) .some in
       let sized = ok .sized in
       let place : m .eip - codeBase ≡ s = omega arith in
-      rw (in-code code m d (λ e. omega arith) (omega arith) (omega arith), place, found)
+      rw (in-code fixed m d (λ e. omega arith) (omega arith) (omega arith), place, found)
       (comes-safe ok m start at x found (planned-comes (planOf (m .eip) x) m d))
-  step-safe (Landed.at-home e) = rw (at-home code m d e) (halts (early 1 (omega arith)))
+  step-safe (Landed.at-home e) = rw (at-home fixed m d e) (halts (early 1 (omega arith)))
   step-safe (outside e) = outside-safe e

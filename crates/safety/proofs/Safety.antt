@@ -13,8 +13,8 @@ use Rattle.blockcheck.specs.Starts.{Start, Acceptable}
 use Rattle.blockcheck.proofs.Starts.{zero-is-start}
 use Rattle.blockcheck.proofs.Verdicts.{accepted-acceptable}
 use Rattle.run.specs.declared.Lent.{Lent}
-use Rattle.run.specs.Steps.{Moved, next}
-use Rattle.run.specs.Runs.{Ended, HandedBack, onMoved, runFrom, refusal, opened, taken, refused, runOf}
+use Rattle.run.specs.Steps.{Fixed, Moved, next}
+use Rattle.run.specs.Runs.{Ended, HandedBack, onMoved, runFrom, refusal, refusalOf, opened, taken, refused, runOf}
 use Rattle.safety.specs.Guidance.{Landed, at-start, indirectAt, Guided, Readable}
 use Rattle.safety.proofs.Landings.{early, late}
 use Rattle.safety.proofs.Landings.{chosen, Safe, goes, halts, step-safe}
@@ -34,39 +34,39 @@ onward (goes direct) go end rest last = rest _ _ refl direct
 onward (halts {n} {a} readable) go end rest last = last n a readable
 
 -- a guided run of acceptable code from a landed address gives neither 3 nor 4
-guided-readable : {code : List ℕ} → Acceptable code → (b k : ℕ) (m : Machine) (d : List ℕ) → Landed code (m .eip) → Guided code b m d
-    → Readable ((runFrom code b m d k) .number)
+guided-readable : {fixed : Fixed} → Acceptable (fixed .code) → (b k : ℕ) (m : Machine) (d : List ℕ) → Landed (fixed .code) (m .eip) → Guided fixed b m d
+    → Readable ((runFrom fixed b m d k) .number)
 unfolding runFrom Guided
 guided-readable ok zero k m d landed guided = early 0 (omega arith)
-guided-readable {code} ok (suc b) k m d landed guided =
+guided-readable {fixed} ok (suc b) k m d landed guided =
     onward (step-safe ok m d landed) _ _
-    (λ m′ d′ e direct. guided-readable ok b (suc k) m′ d′ (decided (indirectAt code m) (guided m′ d′ e .0) direct) (guided m′ d′ e .1))
+    (λ m′ d′ e direct. guided-readable ok b (suc k) m′ d′ (decided (indirectAt (fixed .code) m) (guided m′ d′ e .0) direct) (guided m′ d′ e .1))
     (λ n a readable. readable)
 
 -- a run is refused with neither
-refusal-readable : (code-length data-length word budget : ℕ) → Readable (refusal code-length data-length word budget)
+refusal-readable : (fixed : Fixed) (d : List ℕ) (word budget : ℕ) → Readable (refusalOf fixed d word budget)
 unfolding refusal
-refusal-readable code-length data-length word budget =
+refusal-readable fixed d word budget =
     let by-budget = chosen Readable (ltb 1_000_000 budget) (late 13 (omega arith)) (early 0 (omega arith)) in
     let by-word = chosen Readable (not (passes word)) (late 12 (omega arith)) by-budget in
-    let by-data = chosen Readable (ltb 65_536 data-length) (late 11 (omega arith)) by-word in
-    chosen Readable (eqb code-length 0 || ltb 65_536 code-length) (late 10 (omega arith)) by-data
+    let by-data = chosen Readable (ltb 65_536 (length d)) (late 11 (omega arith)) by-word in
+    chosen Readable (eqb (length (fixed .code)) 0 || ltb 65_536 (length (fixed .code))) (late 10 (omega arith)) by-data
 
-module _ {code marks after : List ℕ} {count : ℕ} (judged : Judged code marks 0 count after) where
+module _ (fixed : Fixed) {marks after : List ℕ} {count : ℕ} (judged : Judged (fixed .code) marks 0 count after) where
   -- from a landed address, no number of steps of accepted code gives 3 or 4
-  pub never-unreadable : (m : Machine) (d : List ℕ) → Landed code (m .eip) → (b k : ℕ) → Guided code b m d
-      → Readable ((runFrom code b m d k) .number)
+  pub never-unreadable : (m : Machine) (d : List ℕ) → Landed (fixed .code) (m .eip) → (b k : ℕ) → Guided fixed b m d
+      → Readable ((runFrom fixed b m d k) .number)
   never-unreadable m d landed b k guided = guided-readable (accepted-acceptable judged) b k m d landed guided
 
-  module _ (l : Lent) (d : List ℕ) (budget : ℕ) (guided : Guided code budget (opened l) d) where
+  module _ (l : Lent) (d : List ℕ) (budget : ℕ) (guided : Guided fixed budget (opened l) d) where
     -- no run of accepted code that starts at a start gives 3 or 4
-    pub run-from-start : (s : ℕ) → Start code s → l .eip ≡ codeBase + s → Readable ((runOf code l d budget) .ran .number)
+    pub run-from-start : (s : ℕ) → Start (fixed .code) s → l .eip ≡ codeBase + s → Readable ((runOf fixed l d budget) .ran .number)
     unfolding runOf taken refused opened
     run-from-start s start at =
-        chosen (λ (o : HandedBack). Readable (o .ran .number)) (eqb (refusal (length code) (length d) (l .word) budget) 0)
+        chosen (λ (o : HandedBack). Readable (o .ran .number)) (eqb (refusalOf fixed d (l .word) budget) 0)
         (never-unreadable (opened l) d (at-start start at) budget 0 guided)
-        (refusal-readable (length code) (length d) (l .word) budget)
+        (refusal-readable fixed d (l .word) budget)
 
     -- in particular none that starts at the code's first byte
-    pub run-from-first : l .eip ≡ codeBase → Readable ((runOf code l d budget) .ran .number)
+    pub run-from-first : l .eip ≡ codeBase → Readable ((runOf fixed l d budget) .ran .number)
     run-from-first at = run-from-start 0 (zero-is-start (accepted-acceptable judged)) (omega arith)

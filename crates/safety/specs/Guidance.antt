@@ -10,7 +10,7 @@ use Rattle.blockcheck.specs.Blocks.{codeBase}
 use Rattle.blockcheck.specs.Starts.{Start}
 use Rattle.plan.specs.Plans.{planOf}
 use Rattle.effect.specs.Ways.{indirect}
-use Rattle.run.specs.Steps.{next, home, inside, stepOf}
+use Rattle.run.specs.Steps.{Fixed, next, home, inside, stepOf}
 
 -- an address is a start's, the ending address (home) or outside the code
 pub data Landed (code : List ℕ) (a : ℕ) : Type 0 where
@@ -29,11 +29,11 @@ unfoldable pub indirectAt : List ℕ → Machine → Bool
 indirectAt code m = indirectFound (decodeOf code (m .eip - codeBase)) m
 
 -- of the first b steps, each return and each jump or call through a register or memory lands on a start, at the ending address or outside the code
-unfoldable pub Guided : List ℕ → ℕ → Machine → List ℕ → Type 0
-Guided code zero m d = Unit
-Guided code (suc b) m d =
-    (m′ : Machine) (d′ : List ℕ) → stepOf code m d ≡ next m′ d′
-    → (indirectAt code m ≡ true → Landed code (m′ .eip)) × Guided code b m′ d′
+unfoldable pub Guided : Fixed → ℕ → Machine → List ℕ → Type 0
+Guided fixed zero m d = Unit
+Guided fixed (suc b) m d =
+    (m′ : Machine) (d′ : List ℕ) → stepOf fixed m d ≡ next m′ d′
+    → (indirectAt (fixed .code) m ≡ true → Landed (fixed .code) (m′ .eip)) × Guided fixed b m′ d′
 
 -- a number that comes back is neither 3 (cut) nor 4 (no such instruction)
 pub record Readable (number : ℕ) : Type 0 where

@@ -12,8 +12,8 @@ use Rattle.machine.specs.declared.registers.Machine.{Machine}
 use Rattle.blockcheck.proofs.Cuts.{pieces-within, astray-within}
 use Rattle.blockcheck.specs.Blocks.{Judged, bad-length, bad-marks, cut-at, unknown-at, astray-at, accepted}
 use Rattle.run.specs.declared.Lent.{Lent}
-use Rattle.run.specs.Steps.{stepOf, Moved}
-use Rattle.run.specs.Runs.{Ended, onMoved, runFrom, refusal, opened, taken, refused, runOf}
+use Rattle.run.specs.Steps.{Fixed, stepOf, Moved}
+use Rattle.run.specs.Runs.{Ended, onMoved, runFrom, refusal, refusalOf, opened, taken, refused, runOf}
 
 -- where both ways take no more steps, so does a step
 moved-within : (moved : Moved) (most : ℕ) (go : Machine → List ℕ → Ended) (end : ℕ → ℕ → Ended)
@@ -23,11 +23,11 @@ moved-within (Moved.next m d) most go end h k = h m d
 moved-within (Moved.stop n a) most go end h k = k n a
 
 -- a run of steps takes no more than its budget
-steps-within : (code : List ℕ) (b : ℕ) (m : Machine) (d : List ℕ) (k : ℕ) → runFrom code b m d k .steps ≤ k + b
+steps-within : (fixed : Fixed) (b : ℕ) (m : Machine) (d : List ℕ) (k : ℕ) → runFrom fixed b m d k .steps ≤ k + b
 unfolding runFrom
-steps-within code zero m d k = omega arith
-steps-within code (suc b) m d k =
-    moved-within (stepOf code m d) (k + suc b) _ _ (λ m′ d′. omega (arith, steps-within code b m′ d′ (suc k))) (λ n a. omega arith)
+steps-within fixed zero m d k = omega arith
+steps-within fixed (suc b) m d k =
+    moved-within (stepOf fixed m d) (k + suc b) _ _ (λ m′ d′. omega (arith, steps-within fixed b m′ d′ (suc k))) (λ n a. omega arith)
 
 -- of the four refusals the last leaves the budget allowed
 allowed : (a b w : Bool) (budget : ℕ) → _≡_ {A = ℕ} (cond a 10 (cond b 11 (cond w 12 (cond (ltb 1_000_000 budget) 13 0)))) 0 → budget ≤ 1_000_000
@@ -41,10 +41,10 @@ allowed false false false budget h = by (ltb 1_000_000 budget) refl h
     by false e z = ltb-false 1_000_000 budget e
 
 -- a budget that is not refused
-budget-within : (code-length data-length word budget : ℕ) → refusal code-length data-length word budget ≡ 0 → budget ≤ 1_000_000
+budget-within : (fixed : Fixed) (d : List ℕ) (word budget : ℕ) → refusalOf fixed d word budget ≡ 0 → budget ≤ 1_000_000
 unfolding refusal
-budget-within code-length data-length word budget h =
-    allowed (eqb code-length 0 || ltb 65_536 code-length) (ltb 65_536 data-length) (not (passes word)) budget h
+budget-within fixed d word budget h =
+    allowed (eqb (length (fixed .code)) 0 || ltb 65_536 (length (fixed .code))) (ltb 65_536 (length d)) (not (passes word)) budget h
 
 -- a refused run takes no steps
 outcome-fits : (b : Bool) (e : Ended) (l : Lent) (d : List ℕ) (n : ℕ) → (b ≡ true → e .steps < 2 ^ 32)
@@ -54,14 +54,14 @@ outcome-fits true e l d n h = h refl
 outcome-fits false e l d n h = omega arith
 
 -- the steps of a run fit a word
-pub steps-fit : (code : List ℕ) (l : Lent) (d : List ℕ) (budget : ℕ) → runOf code l d budget .ran .steps < 2 ^ 32
+pub steps-fit : (fixed : Fixed) (l : Lent) (d : List ℕ) (budget : ℕ) → runOf fixed l d budget .ran .steps < 2 ^ 32
 unfolding runOf
-steps-fit code l d budget =
-    outcome-fits (eqb (refusal (length code) (length d) (l .word) budget) 0) (runFrom code budget (opened l) d 0) l d _
+steps-fit fixed l d budget =
+    outcome-fits (eqb (refusalOf fixed d (l .word) budget) 0) (runFrom fixed budget (opened l) d 0) l d _
     (λ t. omega (
       arith,
-      steps-within code budget (opened l) d 0,
-      budget-within (length code) (length d) (l .word) budget (eqb-true _ _ t),
+      steps-within fixed budget (opened l) d 0,
+      budget-within fixed d (l .word) budget (eqb-true _ _ t),
     ))
 
 -- the count or the offset of a check fits a word

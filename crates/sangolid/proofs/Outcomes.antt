@@ -8,7 +8,8 @@ use lib.Seq.{drop-cons}
 use borrow.Author.Tests.{eq-eqb, ne-eqb}
 use Rattle.blockcheck.proofs.Verdicts.{judged-unique}
 use Rattle.hex.proofs.Outcomes.{outcome-unique}
-use Rattle.run.specs.Runs.{refusal, refused, runOf}
+use Rattle.run.specs.Steps.{Fixed}
+use Rattle.run.specs.Runs.{refusalOf, refused, runOf}
 use Rattle.sangolid.specs.Interface.{lentOf, stateOf, Call, called, callOf, Calls, Checks, unfit, judged, wordOf, Unhexes, unfit-answer, unhexed}
 
 -- any two permitted outcomes of a call of a run coincide
@@ -47,11 +48,11 @@ part-listed (suc n) k l h =
     rw (drop-cons l k 0 (omega arith)) (ap (λ (r : List ℕ). getD l k 0 ∷ r) (part-listed n (suc k) l (omega arith)))
 
 -- 10 to 13 keep the ten words of the machine: 0 steps, address 0, and the data as handed in
-pub refused-keeps : (state code d : List ℕ) (budget : ℕ) → length state ≡ 12
-    → (refusal (length code) (length d) (getD state 9 0) budget ≡ 0 → ⊥)
-    → callOf state code d budget
-    ≡ record { number = refusal (length code) (length d) (getD state 9 0) budget; state = take 10 state ++ (0 ∷ 0 ∷ []); area = d }
+pub refused-keeps : (state : List ℕ) (fixed : Fixed) (d : List ℕ) (budget : ℕ) → length state ≡ 12
+    → (refusalOf fixed d (getD state 9 0) budget ≡ 0 → ⊥)
+    → callOf state fixed d budget
+    ≡ record { number = refusalOf fixed d (getD state 9 0) budget; state = take 10 state ++ (0 ∷ 0 ∷ []); area = d }
 unfolding callOf called runOf refused lentOf stateOf
-refused-keeps state code d budget long some =
+refused-keeps state fixed d budget long some =
     rw (eq-eqb _ _ long, ne-eqb _ _ some)
-    (ap (λ (words : List ℕ). record { number = refusal (length code) (length d) (getD state 9 0) budget; state = words ++ (0 ∷ 0 ∷ []); area = d }) (part-listed 10 0 state (omega arith)))
+    (ap (λ (words : List ℕ). record { number = refusalOf fixed d (getD state 9 0) budget; state = words ++ (0 ∷ 0 ∷ []); area = d }) (part-listed 10 0 state (omega arith)))

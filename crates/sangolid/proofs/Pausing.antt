@@ -8,6 +8,7 @@ use lib.Seq.{take-all}
 use borrow.Author.Tests.{eq-eqb}
 use Rattle.run.specs.declared.Lent.{Lent}
 use Rattle.run.specs.declared.Ran.{Ran}
+use Rattle.run.specs.Steps.{Fixed}
 use Rattle.run.specs.Runs.{HandedBack, runOf}
 use Rattle.run.proofs.Kept.{registers-kept}
 use Rattle.run.specs.Pausing.{Joined}
@@ -24,9 +25,9 @@ lent-again r eight =
     (part-listed 8 0 (r .machine .regs) (omega arith) ∙ take-all 8 (r .machine .regs) (omega arith))
 
 -- a call hands back eight registers
-eight-back : (state code d : List ℕ) (budget : ℕ) → length ((runOf code (lentOf state) d budget) .ran .machine .regs) ≡ 8
+eight-back : (state : List ℕ) (fixed : Fixed) (d : List ℕ) (budget : ℕ) → length ((runOf fixed (lentOf state) d budget) .ran .machine .regs) ≡ 8
 unfolding lentOf
-eight-back state code d budget = registers-kept code (lentOf state) d budget
+eight-back state fixed d budget = registers-kept fixed (lentOf state) d budget
 
 -- runs that join are calls that continue
 continues : {first second whole : HandedBack} → Joined first second whole → Continues (called first) (called second) (called whole)
@@ -41,10 +42,10 @@ continues joined =
     }
 
 -- m at least 1, n + m within the limit: a call with n, and again with m, as one with n + m; the states of another length are those of `misfit-changes-nothing`
-pub pause : (state code d : List ℕ) (n m : ℕ) → length state ≡ 12 → 0 < m → n + m ≤ 1_000_000
-    → Continues (callOf state code d n) (again (callOf state code d n) code m) (callOf state code d (n + m))
+pub pause : (state : List ℕ) (fixed : Fixed) (d : List ℕ) (n m : ℕ) → length state ≡ 12 → 0 < m → n + m ≤ 1_000_000
+    → Continues (callOf state fixed d n) (again (callOf state fixed d n) fixed m) (callOf state fixed d (n + m))
 unfolding callOf called stateOf again
-pause state code d n m twelve some small =
-    let first = runOf code (lentOf state) d n in
-    rw (eq-eqb _ _ twelve, lent-again (first .ran) (eight-back state code d n))
-    (continues (law code (lentOf state) d n m some small))
+pause state fixed d n m twelve some small =
+    let first = runOf fixed (lentOf state) d n in
+    rw (eq-eqb _ _ twelve, lent-again (first .ran) (eight-back state fixed d n))
+    (continues (law fixed (lentOf state) d n m some small))

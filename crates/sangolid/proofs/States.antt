@@ -10,6 +10,7 @@ use Rattle.blockcheck.specs.Blocks.{Judged}
 use Rattle.hex.specs.Files.{Outcome}
 use Rattle.run.specs.declared.Lent.{Lent}
 use Rattle.run.specs.declared.Ran.{Ran}
+use Rattle.run.specs.Steps.{Fixed}
 use Rattle.run.specs.Runs.{Runs, runOf}
 use Rattle.sangolid.specs.Interface.{misfit, lentOf, stateOf, called, callOf, Calls, Checks, judged, wordOf, Unhexes, unhexed}
 use Rattle.sangolid.proofs.Bounds.{steps-fit}
@@ -41,29 +42,29 @@ pub handed : (state : List ℕ) (r : Ran) → length state ≡ 12
 unfolding stateOf
 handed state r e = sets-whole (stateOf r) state e
 
-module _ (state code d : List ℕ) (budget : ℕ) where
+module _ (state : List ℕ) (fixed : Fixed) (d : List ℕ) (budget : ℕ) where
   -- a state of another length: 90, and nothing is changed
-  pub misfit-changes-nothing : (length state ≡ 12 → ⊥) → callOf state code d budget ≡ record { number = misfit; state = state; area = d }
+  pub misfit-changes-nothing : (length state ≡ 12 → ⊥) → callOf state fixed d budget ≡ record { number = misfit; state = state; area = d }
   unfolding callOf
   misfit-changes-nothing wrong = rw (ne-eqb _ _ wrong)
 
   -- so a call returns
-  pub calls-misfit : (length state ≡ 12 → ⊥) → Calls (callOf state code d budget) 90 state d
+  pub calls-misfit : (length state ≡ 12 → ⊥) → Calls (callOf state fixed d budget) 90 state d
   unfolding misfit
   calls-misfit wrong = rw (misfit-changes-nothing wrong) (record { is = refl; state-left = refl; area-left = refl })
 
   -- the run's number, with the state written whole
-  pub calls-run : length state ≡ 12 → {l : Lent} {r : Ran} {later after : List ℕ} → l ≡ lentOf state → Runs (runOf code l d budget) r after
+  pub calls-run : length state ≡ 12 → {l : Lent} {r : Ran} {later after : List ℕ} → l ≡ lentOf state → Runs (runOf fixed l d budget) r after
       → later ≡ stateOf r
-      → Calls (callOf state code d budget) (r .number) later after
+      → Calls (callOf state fixed d budget) (r .number) later after
   unfolding callOf called
   calls-run long lending runs writing =
       rw (eq-eqb _ _ long, ← lending) (record { is = ap (λ (r : Ran). r .number) (runs .is); state-left = writing ∙ ap stateOf (runs .is); area-left = runs .left })
 
 -- the steps that a run hands back fit a word
-pub ran-fits : (code : List ℕ) (l : Lent) (d : List ℕ) (budget : ℕ) {r : Ran} {after : List ℕ} → Runs (runOf code l d budget) r after
+pub ran-fits : (fixed : Fixed) (l : Lent) (d : List ℕ) (budget : ℕ) {r : Ran} {after : List ℕ} → Runs (runOf fixed l d budget) r after
     → r .steps < 2 ^ 32
-ran-fits code l d budget runs = rw (runs .is) (steps-fit code l d budget)
+ran-fits fixed l d budget runs = rw (runs .is) (steps-fit fixed l d budget)
 
 -- a check's answer is written whole
 pub checks-judged : {code marks answer after : List ℕ} {n number v value : ℕ} → length answer ≡ 1 → Judged code marks number value after

@@ -7,6 +7,7 @@ use lib.Dec.{eqb}
 use lib.ListN.{length, getD}
 use Rattle.run.specs.declared.Lent.{Lent}
 use Rattle.run.specs.declared.Ran.{Ran}
+use Rattle.run.specs.Steps.{Fixed}
 use Rattle.run.specs.Runs.{HandedBack, runOf}
 use Rattle.blockcheck.specs.Blocks.{Judged}
 use Rattle.hex.specs.Files.{Outcome}
@@ -52,9 +53,9 @@ unfoldable pub called : HandedBack → Call
 called o = record { number = o .ran .number; state = stateOf (o .ran); area = o .area }
 
 -- a call with a state of 12 words runs the block; any other changes nothing
-unfoldable pub callOf : List ℕ → List ℕ → List ℕ → ℕ → Call
-callOf state code d budget =
-    cond (eqb (length state) 12) (called (runOf code (lentOf state) d budget))
+unfoldable pub callOf : List ℕ → Fixed → List ℕ → ℕ → Call
+callOf state fixed d budget =
+    cond (eqb (length state) 12) (called (runOf fixed (lentOf state) d budget))
     (record { number = misfit; state = state; area = d })
 
 -- the number returned, the state and the data after are what the call comes to

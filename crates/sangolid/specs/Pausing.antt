@@ -3,11 +3,12 @@ use mathlib.Core.Path.{_≡_}
 use mathlib.Core.List.{List}
 use Prim.Native.Nat.{ℕ, _+_}
 use lib.ListN.{take, getD}
+use Rattle.run.specs.Steps.{Fixed}
 use Rattle.sangolid.specs.Interface.{Call, callOf}
 
 -- a further call, with the state and the data that one has left
-unfoldable pub again : Call → List ℕ → ℕ → Call
-again left code budget = callOf (left .state) code (left .area) budget
+unfoldable pub again : Call → Fixed → ℕ → Call
+again left fixed budget = callOf (left .state) fixed (left .area) budget
 
 -- the whole leaves the machine's ten words, the address and the data that the second leaves, and returns its number; the steps are those of both
 pub record Continues (first second whole : Call) : Type 0 where

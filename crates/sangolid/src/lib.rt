@@ -8,6 +8,7 @@ ghost use Prim.Native.Nat.{_+_, _<_, _≤_, _^_};
 ghost use lib.ListN.{length};
 ghost use lib.Seq.{sets};
 ghost use Rattle.blockcheck.specs.Blocks.{numberOf, valueOf};
+ghost use Rattle.run.specs.Steps.{fixedTo};
 ghost use Rattle.sangolid.specs.Interface.{lentOf, stateOf, callOf, Calls, Checks, wordOf, Unhexes};
 
 // The machine in the first ten words of the state.
@@ -59,7 +60,7 @@ fn hand_back(state: &mut [u32], ran: Ran)
 // Runs the block from the state, over the lent data, and puts what comes back into the state.
 #[no_mangle]
 pub extern "C" fn sangolid_run(state: &mut [u32], code: &[u8], area: &mut [u8], budget: u64) -> u32
-    ensures { λ r. ⌜ Calls (callOf (now (state .entry)) (now (code .entry)) (now (area .entry)) budget) r (now (state .exit)) (now (area .exit)) ⌝ }
+    ensures { λ r. ⌜ Calls (callOf (now (state .entry)) (fixedTo (now (code .entry))) (now (area .entry)) budget) r (now (state .exit)) (now (area .exit)) ⌝ }
 {
     if state.len() != 12 {
         return 90;

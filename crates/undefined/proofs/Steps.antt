@@ -23,7 +23,7 @@ use Rattle.effect.specs.declared.outcome.Reads.{Reads}
 use Rattle.effect.specs.declared.outcome.Reads.the-variants.{Nothing, One, Two}
 use Rattle.effect.specs.Arithmetic.{arithmeticAddress, arithmeticReads}
 use Rattle.effect.specs.All.{addressBy, readsBy, effectBy}
-use Rattle.run.specs.Steps.{Moved, next, stop, home, inside, committed, finished, loaded, performed, operandAddress, planned, executed, stepOf}
+use Rattle.run.specs.Steps.{Fixed, Moved, next, stop, home, inside, committed, finished, loaded, performed, operandAddress, planned, executed, stepOf}
 use Rattle.undefined.specs.Undefined.{arithmeticUndefined, undefinedBy, given, firstRead, planUndefined, foundUndefined, stepUndefined, Alike}
 use Rattle.undefined.proofs.Unflagged.{address-same, operand-same}
 use Rattle.undefined.proofs.Effects.{Settled, moves, stops, comesTo, comes-settled}
@@ -129,30 +129,30 @@ unfolding withFlags
 with-others m m′ regs eip = rw (sym regs, sym eip)
 
 -- a step of two machines that differ only in flags that 003 leaves undefined after it
-step-settled : (code : List ℕ) (m m′ : Machine) (d : List ℕ) → Alike (stepUndefined code m d) m m′
-    → Settled (stepUndefined code m d) (stepOf code m d) (stepOf code m′ d)
+step-settled : (fixed : Fixed) (m m′ : Machine) (d : List ℕ) → Alike (stepUndefined fixed m d) m m′
+    → Settled (stepUndefined fixed m d) (stepOf fixed m d) (stepOf fixed m′ d)
 unfolding withFlags stepUndefined stepOf
-step-settled code m m′ d h =
-    let us = stepUndefined code m d in
+step-settled fixed m m′ d h =
+    let us = stepUndefined fixed m d in
     rw (with-others m m′ (h .regs) (h .eip))
     (either us (eqb (m .eip) home) stops
-    (either us (inside code (m .eip)) (executed-settled (decodeOf code (m .eip - codeBase)) m (m′ .flags) d (h .flags)) stops))
+    (either us (inside (fixed .code) (m .eip)) (executed-settled (decodeOf (fixed .code) (m .eip - codeBase)) m (m′ .flags) d (h .flags)) stops))
 
 -- it comes to the same, flags and all
-pub step-regardless : (code : List ℕ) (m m′ : Machine) (d : List ℕ) → Alike (stepUndefined code m d) m m′
-    → stepOf code m′ d ≡ stepOf code m d
-step-regardless code m m′ d h = same (step-settled code m m′ d h)
+pub step-regardless : (fixed : Fixed) (m m′ : Machine) (d : List ℕ) → Alike (stepUndefined fixed m d) m m′
+    → stepOf fixed m′ d ≡ stepOf fixed m d
+step-regardless fixed m m′ d h = same (step-settled fixed m m′ d h)
   where
     same : {us : List Flag} {v v′ : Moved} → Settled us v v′ → v′ ≡ v
     same (moves h) = refl
     same stops = refl
 
 -- after a step that goes on, the flags that 003 leaves undefined are clear
-pub step-clears : (code : List ℕ) (m m′ : Machine) (d d′ : List ℕ) → stepOf code m d ≡ next m′ d′
-    → without (stepUndefined code m d) (m′ .flags) ≡ m′ .flags
+pub step-clears : (fixed : Fixed) (m m′ : Machine) (d d′ : List ℕ) → stepOf fixed m d ≡ next m′ d′
+    → without (stepUndefined fixed m d) (m′ .flags) ≡ m′ .flags
 unfolding DifferOnlyIn
-step-clears code m m′ d d′ goes =
-    clear (rw goes at (step-settled code m m d (record { regs = refl; eip = refl; flags = refl })))
+step-clears fixed m m′ d d′ goes =
+    clear (rw goes at (step-settled fixed m m d (record { regs = refl; eip = refl; flags = refl })))
   where
     clear : {us : List Flag} → Settled us (next m′ d′) (next m′ d′) → without us (m′ .flags) ≡ m′ .flags
     clear (moves h) = h

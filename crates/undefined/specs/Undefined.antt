@@ -26,7 +26,7 @@ use Rattle.effect.specs.declared.outcome.Reads.{Reads}
 use Rattle.effect.specs.declared.outcome.Reads.the-variants.{Nothing, One, Two}
 use Rattle.effect.specs.Words.{value}
 use Rattle.effect.specs.All.{readsBy}
-use Rattle.run.specs.Steps.{operandAddress}
+use Rattle.run.specs.Steps.{Fixed, operandAddress}
 
 -- after an operation on bits, with this count
 unfoldable pub bitsUndefined : Bits → Size → ℕ → List Flag
@@ -79,8 +79,8 @@ foundUndefined Found.Cut m d = []
 foundUndefined Found.Unknown m d = []
 
 -- after a step
-unfoldable pub stepUndefined : List ℕ → Machine → List ℕ → List Flag
-stepUndefined code m d = foundUndefined (decodeOf code (m .eip - codeBase)) m d
+unfoldable pub stepUndefined : Fixed → Machine → List ℕ → List Flag
+stepUndefined fixed m d = foundUndefined (decodeOf (fixed .code) (m .eip - codeBase)) m d
 
 -- two machines differ only in flags of a list
 pub record Alike (us : List Flag) (m m′ : Machine) : Type 0 where

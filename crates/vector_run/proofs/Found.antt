@@ -7,6 +7,7 @@ use native.Mathlib.Omega.{arith}
 use lib.ListN.{length, getD, take}
 use lib.Seq.{length-take-le}
 use borrow.Author.Tests.{leb-true}
+use Rattle.run.specs.Steps.{fixedTo}
 use Rattle.sangolid.specs.Interface.{callOf, Calls, Checks, unfit, judged, Unhexes, unfit-answer}
 use Rattle.sangolid.specs.Interface.{unhexed as was-unhexed}
 use Rattle.text.proofs.Tests.{both-hold}
@@ -19,7 +20,7 @@ use Rattle.vector_run.specs.Findings.{Told, firstOther, numbersFrom, res
 
 -- what the run's call gives, compared, is its finding
 pub run-found : (line code d : List ℕ) {state told before after : List ℕ} {n budget : ℕ} {r : Finding} → before ≡ stateBefore line
-    → budget ≡ valueOf (fieldOf line 12) % 2 ^ 64 → Calls (callOf before code d budget) n state after → told ≡ resultsOf n state
+    → budget ≡ valueOf (fieldOf line 12) % 2 ^ 64 → Calls (callOf before (fixedTo code) d budget) n state after → told ≡ resultsOf n state
     → r ≡ firstOther line (numbersFrom 17 told ++ (Told.theArea 31 after ∷ [])) → r ≡ runFinding line code d
 unfolding runFinding ranTold numberOf
 run-found line code d start steps calls results found =

@@ -5,6 +5,7 @@ use mathlib.Core.List.{List, [], _∷_, _++_, map}
 use Prim.Native.Nat.{ℕ, suc}
 use lib.Dec.{eqb}
 use lib.ListN.{getD}
+use Rattle.run.specs.Steps.{fixedTo}
 use Rattle.sangolid.specs.Interface.{Call, callOf, Checks, Unhexes}
 use Rattle.vector_text.specs.Hex.{bytesOf, isHeld}
 use Rattle.vector_text.specs.Fields.{fieldOf}
@@ -57,7 +58,7 @@ answerTold number value area = Told.theNumber 17 number ∷ Told.theNumber 19 va
 
 -- the finding of a run over code and data
 unfoldable pub runFinding : List ℕ → List ℕ → List ℕ → Finding
-runFinding line code d = firstOther line (ranTold (callOf (stateBefore line) code d (numberOf line 12)))
+runFinding line code d = firstOther line (ranTold (callOf (stateBefore line) (fixedTo code) d (numberOf line 12)))
 
 -- the finding of a check over code and marks
 pub data CheckFinds (line code marks : List ℕ) : Finding → Type 0 where

@@ -8,9 +8,10 @@ use Rattle.run.proofs.Going.{stepped, Going, begins, goes, ends-stopped
 use Rattle.run.proofs.Sites.{Keeping, none-kept, taken, fresh, known}
 use Rattle.run.proofs.steps.Statement.{statement}
 use Rattle.run.proofs.steps.Tie as tie
+use Rattle.run.specs.Steps.{fixedTo}
 
 abbrev Inv-loop : tie.InvT-loop
-Inv-loop code area₀ budget kept₀ at₀ n₀ area kept at n = Going code area₀ budget at₀ area at n × Keeping code kept
+Inv-loop code area₀ budget kept₀ at₀ n₀ area kept at n = Going (fixedTo code) area₀ budget at₀ area at n × Keeping code kept
 
 abbrev μ-loop : tie.MeasureT-loop
 μ-loop code area₀ budget kept₀ at₀ n₀ area kept at n = budget - n
