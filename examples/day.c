@@ -68,11 +68,12 @@ static const char *run_words(uint32_t number) {
     case 2: return "EIP is outside the code";
     case 3: return "the code ends inside the instruction at EIP";
     case 4: return "there is no such instruction as at EIP";
-    case 5: return "a read outside the data";
+    case 5: return "a read that lies neither in the data nor in the constants";
     case 6: return "a write outside the data";
     case 7: return "a divisor of 0, or a quotient that doesn't fit";
     case 10: return "the code has no byte, or more than 65,536";
     case 11: return "the data has more than 65,536 bytes";
+    case 15: return "the constants have more than 65,536 bytes";
     case 12: return "the flags word has bit 1 clear, or a bit set that is no flag";
     case 13: return "the budget is over 1,000,000";
     default: return "a number that this program doesn't know";
@@ -92,7 +93,7 @@ static int check_block(void) {
     return number == 0;
 }
 
-/* Runs the block on the day's readings and prints the result; tells whether the block ended by itself. */
+/* Runs the block, which has no constants, on the day's readings and prints the result; tells whether the block ended by itself. */
 static int run_block(void) {
     uint8_t area[AREA_BYTES];
     sangolid_state state = {0};
@@ -102,7 +103,7 @@ static int run_block(void) {
     state.esp = DATA_BASE + STACK_AT;
     state.eip = CODE_BASE;
     state.flags = NO_FLAGS;
-    uint32_t number = sangolid_run_state(&state, BLOCK, sizeof BLOCK, area, sizeof area, BUDGET);
+    uint32_t number = sangolid_run_state(&state, BLOCK, sizeof BLOCK, NULL, 0, area, sizeof area, BUDGET);
     if (number != 1) {
         /* EAX is no sum now: it must not get into the report. */
         printf("run: number %" PRIu32 " at %08" PRIX32 "h: %s\n", number, state.address, run_words(number));

@@ -58,6 +58,8 @@ def load(path):
         ctypes.c_size_t,
         ctypes.c_char_p,
         ctypes.c_size_t,
+        ctypes.c_char_p,
+        ctypes.c_size_t,
         ctypes.POINTER(ctypes.c_uint8),
         ctypes.c_size_t,
         ctypes.c_uint64,
@@ -78,7 +80,7 @@ def check_block(library):
 
 
 def run_block(library):
-    """Runs the block on the day's readings and prints the result; tells whether the block ended by itself."""
+    """Runs the block, which has no constants, on the day's readings and prints the result; tells whether the block ended by itself."""
     stack_at = 4 * len(READINGS)  # the stack is the word behind the readings, and holds home for the block's RET
     words = struct.pack(f"<{len(READINGS) + 1}I", *READINGS, HOME)
     area = (ctypes.c_uint8 * len(words)).from_buffer_copy(words)
@@ -86,7 +88,9 @@ def run_block(library):
         ecx=len(READINGS), esi=DATA_BASE, esp=DATA_BASE + stack_at, eip=CODE_BASE, flags=NO_FLAGS
     )
     state_words = ctypes.sizeof(State) // ctypes.sizeof(ctypes.c_uint32)
-    number = library.sangolid_run(ctypes.byref(state), state_words, BLOCK, len(BLOCK), area, len(area), BUDGET)
+    number = library.sangolid_run(
+        ctypes.byref(state), state_words, BLOCK, len(BLOCK), None, 0, area, len(area), BUDGET
+    )
     if number != 1:
         # EAX is no sum now: it must not get into the report.
         print(f"run: number {number} at {state.address:08X}h")

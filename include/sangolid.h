@@ -13,39 +13,45 @@ extern "C" {
 /*
  * Runs the block: takes steps until one stops or the budget is used up.
  *
- * state      12 words, read and written: EAX ECX EDX EBX ESP EBP ESI EDI, EIP, the flags word (CF bit 0, PF 2, AF 4,
- *            ZF 6, SF 7, DF 10, OF 11; bit 1 set), then two that are only written: the steps done, and the address.
- * state_len  how many words the state has: 12.
- * code       the block's bytes, which lie at 00010000h upward. They are only read.
- * code_len   how many they are: 1 to 65,536.
- * area       the data's bytes, which lie at 00100000h upward. All operands and the stack are here.
- * area_len   how many they are: 0 to 65,536.
- * budget     the most steps to take: 0 to 1,000,000.
+ * state          12 words, read and written: EAX ECX EDX EBX ESP EBP ESI EDI, EIP, the flags word (CF bit 0, PF 2, AF 4,
+ *                ZF 6, SF 7, DF 10, OF 11; bit 1 set), then two that are only written: the steps done, and the address.
+ * state_len      how many words the state has: 12.
+ * code           the block's bytes, which lie at 00010000h upward. They are only read.
+ * code_len       how many they are: 1 to 65,536.
+ * constants      the constants' bytes, which lie at 00200000h upward. They are only read. Operands that are not written
+ *                may be here.
+ * constants_len  how many they are: 0 to 65,536.
+ * area           the data's bytes, which lie at 00100000h upward. All other operands and the stack are here.
+ * area_len       how many they are: 0 to 65,536.
+ * budget         the most steps to take: 0 to 1,000,000.
  *
  * Returns why the run ended, and puts the address that goes with it into the state's last word:
- *    0  the budget is used up; address: EIP. A further call with this state and these data goes on from here.
+ *    0  the budget is used up; address: EIP. A further call with this state, these constants and these data goes
+ *       on from here.
  *    1  EIP is home, FFFF0000h: the block has ended; address: EIP.
  *    2  EIP is outside the code; address: EIP.
  *    3  the code ends inside the instruction at EIP; address: EIP.
  *    4  there is no such instruction as at EIP; address: EIP.
- *    5  a read outside the data; address: where it was to read.
- *    6  a write outside the data; address: where it was to write.
+ *    5  a read that lies neither wholly in the data nor wholly in the constants; address: where it was to read.
+ *    6  a write that doesn't lie wholly in the data; address: where it was to write.
  *    7  a divisor of 0, or a quotient that doesn't fit; address: EIP.
  *   10  the code has no byte, or more than 65,536.
  *   11  the data has more than 65,536 bytes.
+ *   15  the constants have more than 65,536 bytes.
  *   12  the flags word has bit 1 clear, or a bit set that is no flag.
  *   13  the budget is over 1,000,000.
  *   90  the state doesn't have 12 words.
- * With 1 to 7 all steps before the last stand, and the one that stopped has changed nothing. With 10 to 13 no step was
- * taken: the first ten words and the data stay as they are, steps and address are 0. With 90 nothing is changed.
+ * With 1 to 7 all steps before the last stand, and the one that stopped has changed nothing. 10, 11, 15, 12 and 13
+ * are tested in this order, and with them no step was taken: the first ten words and the data stay as they are, steps and
+ * address are 0. With 90 nothing is changed.
  *
  * A flag that Intel's 1999 reference leaves undefined after an instruction comes out clear, whatever it was.
  *
- * A pause changes nothing: a call with budget n and a further one with m leave and return what one with n + m does, and
- * their steps add up to its steps, where m is at least 1 and n + m at most 1,000,000.
+ * A pause changes nothing: a call with budget n and a further one with m, and the same constants, leave and return what
+ * one with n + m does, and their steps add up to its steps, where m is at least 1 and n + m at most 1,000,000.
  */
-uint32_t sangolid_run(uint32_t *state, size_t state_len, const uint8_t *code, size_t code_len, uint8_t *area,
-                      size_t area_len, uint64_t budget);
+uint32_t sangolid_run(uint32_t *state, size_t state_len, const uint8_t *code, size_t code_len, const uint8_t *constants,
+                      size_t constants_len, uint8_t *area, size_t area_len, uint64_t budget);
 
 /*
  * Checks the block: whether the code is instructions from its first byte to its last, and every jump, call and loop with
@@ -121,12 +127,13 @@ typedef struct sangolid_state {
 typedef char sangolid_state_is_12_words[sizeof(sangolid_state) == SANGOLID_STATE_WORDS * sizeof(uint32_t) ? 1 : -1];
 
 /* Runs the block as sangolid_run does, with the state by name; 90 can't come back. */
-static inline uint32_t sangolid_run_state(sangolid_state *state, const uint8_t *code, size_t code_len, uint8_t *area,
+static inline uint32_t sangolid_run_state(sangolid_state *state, const uint8_t *code, size_t code_len,
+                                          const uint8_t *constants, size_t constants_len, uint8_t *area,
                                           size_t area_len, uint64_t budget) {
     uint32_t words[SANGOLID_STATE_WORDS];
     uint32_t number;
     memcpy(words, state, sizeof words);
-    number = sangolid_run(words, SANGOLID_STATE_WORDS, code, code_len, area, area_len, budget);
+    number = sangolid_run(words, SANGOLID_STATE_WORDS, code, code_len, constants, constants_len, area, area_len, budget);
     memcpy(state, words, sizeof words);
     return number;
 }

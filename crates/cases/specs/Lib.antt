@@ -2,3 +2,4 @@
 pub mod Lines
 pub mod Table
 pub mod Bits
+pub mod Constants

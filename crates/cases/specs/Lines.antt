@@ -17,6 +17,7 @@ use Rattle.run.specs.Runs.{runOf}
 -- a run: what it is given, the machine, steps, number and address that it gives back, and the data that it leaves
 pub record Run : Type 0 where
   pub code : List ℕ
+  pub constants : List ℕ
   pub given : Lent
   pub area : List ℕ
   pub budget : ℕ
@@ -25,13 +26,14 @@ pub record Run : Type 0 where
 
 -- the run gives that back, and leaves those data
 unfoldable pub Gives : Run → Type 0
-Gives c = runOf (fixedTo (c .code)) (c .given) (c .area) (c .budget) ≡ record { ran = c .back; area = c .left }
+Gives c = runOf (fixedTo (c .code) (c .constants)) (c .given) (c .area) (c .budget) ≡ record { ran = c .back; area = c .left }
 
 -- a run that uses up its budget, and ends with this machine and these data
 abbrev pub ends : List ℕ → Lent → List ℕ → ℕ → Lent → List ℕ → Run
 ends code given area budget after left =
     record {
       code = code;
+      constants = [];
       given = given;
       area = area;
       budget = budget;
@@ -44,11 +46,25 @@ abbrev pub stops : List ℕ → Lent → List ℕ → ℕ → Lent → List ℕ 
 stops code given area budget after left steps number address =
     record {
       code = code;
+      constants = [];
       given = given;
       area = area;
       budget = budget;
       back = record { machine = after; steps = steps; number = number; address = address };
       left = left;
+    }
+
+-- a run with constants
+abbrev pub lending : List ℕ → Run → Run
+lending constants c =
+    record {
+      code = c .code;
+      constants = constants;
+      given = c .given;
+      area = c .area;
+      budget = c .budget;
+      back = c .back;
+      left = c .left;
     }
 
 -- a run of one step, with no data

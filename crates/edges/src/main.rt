@@ -79,7 +79,7 @@ fn fill(area: &mut [u8]) {
 
 // The doubleword at an address of the data, 0 outside.
 fn word_at(area: &[u8], a: u32) -> u32 {
-    match load(area, Size::Dword, a) {
+    match load(b"", area, Size::Dword, a) {
         Loaded::Value(v) => v,
         Loaded::Outside(_) => 0,
     }
@@ -103,14 +103,14 @@ fn say_half(r: Ran, last: u32, behind: u32) {
 fn halves(code: &[u8]) {
     let mut area = [0u8; 512];
     fill(&mut area);
-    let first = run(lent(25, 0x0010_0000, 0x0010_0100), code, &mut area, 10);
+    let first = run(lent(25, 0x0010_0000, 0x0010_0100), code, b"", &mut area, 10);
     say_half(
         first,
         word_at(&area, 0x0010_0124),
         word_at(&area, 0x0010_0128),
     );
     let m = first.machine;
-    let second = run(m, code, &mut area, 15);
+    let second = run(m, code, b"", &mut area, 15);
     say_half(
         second,
         word_at(&area, 0x0010_0160),
@@ -122,7 +122,13 @@ fn halves(code: &[u8]) {
 fn stopped(code: &[u8]) {
     let mut area = [0u8; 352];
     fill(&mut area);
-    let r = run(lent(25, 0x0010_0000, 0x0010_0100), code, &mut area, 100);
+    let r = run(
+        lent(25, 0x0010_0000, 0x0010_0100),
+        code,
+        b"",
+        &mut area,
+        100,
+    );
     let m = r.machine;
     let regs = m.regs;
     decimal_field(11, b"\t");
@@ -136,7 +142,7 @@ fn stopped(code: &[u8]) {
 // 8B 06 with the 8 data bytes 11h to 88h, at one ESI: number, address and EAX.
 fn reads(code: &[u8], esi: u32) {
     let mut area = [0x11u8, 0x22, 0x33, 0x44, 0x55, 0x66, 0x77, 0x88];
-    let r = run(lent(0, esi, 0), code, &mut area, 1);
+    let r = run(lent(0, esi, 0), code, b"", &mut area, 1);
     let m = r.machine;
     let regs = m.regs;
     decimal_field(12, b"\t");

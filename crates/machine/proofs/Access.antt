@@ -1,124 +1,211 @@
--- Accesses to the data: what each is by whether it is allowed, and a load of what was stored. Assumes nothing.
+-- Accesses to the lent areas: what each is by whether an area holds it, and a load of what was stored. Assumes nothing.
 use mathlib.Core.Path.{_≡_, refl, sym, ap, _∙_}
 use mathlib.Core.Bool.{Bool, true, false, cond, and-eq-true-iff}
-use mathlib.Core.List.{List, append-assoc}
-use Prim.Native.Nat.{ℕ, zero, suc, _+_, _-_, _%_, _<_, _≤_}
+use mathlib.Core.List.{List, [], append-assoc}
+use Prim.Native.Nat.{ℕ, zero, suc, _+_, _-_, _*_, _%_, _<_, _≤_}
 use native.Mathlib.Omega.{arith}
 use lib.Dec.{leb}
-use lib.ListN.{length, take, drop}
-use lib.Seq.{sets, length-sets, sets-eq, take-at, drop-at, length-take-le}
+use lib.ListN.{length, getD, take, drop, length-drop}
+use lib.Seq.{sets, length-sets, sets-eq, take-at, drop-at, take-all, length-take-le}
 use borrow.Author.Tests.{leb-true, le-leb, lt-leb}
 use Rattle.width.specs.declared.Size.{Size}
 use Rattle.width.specs.declared.Size.the-variants.{Byte, Word, Dword}
 use Rattle.width.specs.Sizes.{bits, bytes, modulus}
 use Rattle.width.specs.LittleEndian.{littleEndian, bytesOf}
+use Rattle.width.proofs.LittleEndian.{number-one, number-two, number-four}
 use Rattle.machine.specs.declared.memory.Located.{Located}
 use Rattle.machine.specs.declared.memory.Located.the-variants.{At}
 use Rattle.machine.specs.declared.memory.Loaded.{Loaded}
 use Rattle.machine.specs.declared.memory.Loaded.the-variants.{Value}
 use Rattle.machine.specs.declared.memory.Stored.{Stored}
 use Rattle.machine.specs.declared.memory.Stored.the-variants.{Done}
-use Rattle.machine.specs.Memory.{base, allowed, placeOf, loadOf, storedOf, storeOf}
+use Rattle.machine.specs.Memory.{dataBase, constantsBase, holds, placeOf, partOf, Read, part, outside, readOf, held, numbered, loadOf, storedOf, storeOf}
 
-module _ (n a len : ℕ) where
-  -- an access that lies in the data is allowed
-  pub is-allowed : base ≤ a → a + n ≤ base + len → allowed n a len ≡ true
-  unfolding allowed
-  is-allowed low high = rw (le-leb base a low, le-leb (a + n) (base + len) high)
+module _ (base len n a : ℕ) where
+  -- an area holds an access that lies in it
+  pub is-held : base ≤ a → a + n ≤ base + len → holds base len n a ≡ true
+  unfolding holds
+  is-held low high = rw (le-leb base a low, le-leb (a + n) (base + len) high)
 
-  -- one that begins below the data is not
-  pub below-data : a < base → allowed n a len ≡ false
-  unfolding allowed
-  below-data low = rw (lt-leb base a low)
+  -- none that begins below it
+  pub below-area : a < base → holds base len n a ≡ false
+  unfolding holds
+  below-area low = rw (lt-leb base a low)
 
-  -- one that ends past the data is not
-  pub past-data : base ≤ a → base + len < a + n → allowed n a len ≡ false
-  unfolding allowed
-  past-data low high = rw (le-leb base a low, lt-leb (a + n) (base + len) high)
+  -- none that ends past it
+  pub past-area : base ≤ a → base + len < a + n → holds base len n a ≡ false
+  unfolding holds
+  past-area low high = rw (le-leb base a low, lt-leb (a + n) (base + len) high)
 
-  -- an access that is allowed lies in the data
-  pub is-within : allowed n a len ≡ true → a - base + n ≤ len
-  unfolding allowed
+  -- an access that an area holds lies in it
+  pub is-within : holds base len n a ≡ true → (base ≤ a) × (a + n ≤ base + len)
+  unfolding holds
   is-within h =
       let parts = and-eq-true-iff (leb base a) (leb (a + n) (base + len)) .0 h in
-      let low = leb-true base a (parts .0) in
-      let high = leb-true (a + n) (base + len) (parts .1) in
-      omega arith
+      (leb-true base a (parts .0), leb-true (a + n) (base + len) (parts .1))
 
-  -- the access is allowed, and lies from at on
+  -- so that its place and its bytes fit
+  pub fits-in : holds base len n a ≡ true → a - base + n ≤ len
+  fits-in h = let (low, high) = is-within h in omega arith
+
+  -- the area holds the access, from at on
   pub record Placed (at : ℕ) : Type 0 where
-    pub inside : allowed n a len ≡ true
+    pub inside : holds base len n a ≡ true
     pub place : at ≡ a - base
     pub fits : at + n ≤ len
 
-  -- the access is not allowed, and b is its address
+  -- the area does not hold the access, and b is its address
   pub record Missed (b : ℕ) : Type 0 where
-    pub outside : allowed n a len ≡ false
+    pub outside : holds base len n a ≡ false
     pub address : b ≡ a
 
 -- what a place that was found says of the access
-pub placed : {p : Located} {m n a len at : ℕ} → m ≡ n → p ≡ placeOf m a len → p ≡ At at → Placed n a len at
+pub placed : {p : Located} {base len m n a at : ℕ} → m ≡ n → p ≡ placeOf base len m a → p ≡ At at → Placed base len n a at
 unfolding placeOf
-placed {p} {m} {n} {a} {len} {at} size found is = by (allowed n a len) refl (rw size at (sym found ∙ is))
+placed {p} {base} {len} {m} {n} {a} {at} size found is = by (holds base len n a) refl (rw size at (sym found ∙ is))
   where
-    by : (t : Bool) → allowed n a len ≡ t → cond t (At (a - base)) (Located.Outside a) ≡ At at → Placed n a len at
+    by : (t : Bool) → holds base len n a ≡ t → cond t (At (a - base)) (Located.Outside a) ≡ At at → Placed base len n a at
     by true h e =
-        let within = is-within n a len h in
+        let within = fits-in base len n a h in
         let place : at ≡ a - base = cc in
         record { inside = h; place = place; fits = omega arith }
     by false h e = absurd (let z : _≡_ {A = ℕ} 0 1 = cc in omega arith)
 
 -- what an address that was found outside says of the access
-pub missed : {p : Located} {m n a len b : ℕ} → m ≡ n → p ≡ placeOf m a len → p ≡ Located.Outside b → Missed n a len b
+pub missed : {p : Located} {base len m n a b : ℕ} → m ≡ n → p ≡ placeOf base len m a → p ≡ Located.Outside b → Missed base len n a b
 unfolding placeOf
-missed {p} {m} {n} {a} {len} {b} size found is = by (allowed n a len) refl (rw size at (sym found ∙ is))
+missed {p} {base} {len} {m} {n} {a} {b} size found is = by (holds base len n a) refl (rw size at (sym found ∙ is))
   where
-    by : (t : Bool) → allowed n a len ≡ t → cond t (At (a - base)) (Located.Outside a) ≡ Located.Outside b → Missed n a len b
+    by : (t : Bool) → holds base len n a ≡ t → cond t (At (a - base)) (Located.Outside a) ≡ Located.Outside b → Missed base len n a b
     by true h e = absurd (let z : _≡_ {A = ℕ} 0 1 = cc in omega arith)
     by false h e = record { outside = h; address = cc }
 
+module _ (constants d : List ℕ) (n a : ℕ) where
+  -- a read that data holds is a part of data
+  pub read-data : holds dataBase (length d) n a ≡ true → readOf constants d n a ≡ part (partOf dataBase d n a)
+  unfolding readOf
+  read-data h = rw h
+
+  module _ (elsewhere : holds dataBase (length d) n a ≡ false) where
+    -- one that constants hold is a part of constants
+    pub read-constants : holds constantsBase (length constants) n a ≡ true
+        → readOf constants d n a ≡ part (partOf constantsBase constants n a)
+    unfolding readOf
+    read-constants h = rw (elsewhere, h)
+
+    -- any other gives the address
+    pub read-outside : holds constantsBase (length constants) n a ≡ false → readOf constants d n a ≡ outside a
+    unfolding readOf
+    read-outside h = rw (elsewhere, h)
+
+  -- as the part from its place on
+  pub held-data : {at : ℕ} → Placed dataBase (length d) n a at → take (at + n - at) (drop at d) ≡ held (readOf constants d n a)
+  unfolding partOf held
+  held-data {at} p = let long : at + n - at ≡ n = omega arith in rw (read-data (p .inside), long, p .place)
+
+  pub held-constants : {b at : ℕ} → Missed dataBase (length d) n a b → Placed constantsBase (length constants) n a at
+      → take (at + n - at) (drop at constants) ≡ held (readOf constants d n a)
+  unfolding partOf held
+  held-constants {b} {at} missing p =
+      let long : at + n - at ≡ n = omega arith in rw (read-constants (missing .outside) (p .inside), long, p .place)
+
+  -- or as no byte
+  pub held-none : {b b′ : ℕ} → Missed dataBase (length d) n a b → Missed constantsBase (length constants) n a b′ → [] ≡ held (readOf constants d n a)
+  unfolding held
+  held-none missing missing′ = rw (read-outside (missing .outside) (missing′ .outside))
+
+  -- the part has as many bytes as were to be read
+  part-long : (base : ℕ) (area : List ℕ) → holds base (length area) n a ≡ true → length (partOf base area n a) ≡ n
+  unfolding partOf
+  part-long base area h =
+      let within = fits-in base (length area) n a h in
+      length-take-le n (drop (a - base) area) (rw (length-drop (a - base) area) (omega arith))
+
+  -- what is read: so many bytes, or none, and then the address is the access's
+  pub data Reads : Read → Type 0 where
+    whole : {bytes : List ℕ} → length bytes ≡ n → Reads (part bytes)
+    none : Reads (outside a)
+
+  pub reads : Reads (readOf constants d n a)
+  unfolding readOf
+  reads = by (holds dataBase (length d) n a) (holds constantsBase (length constants) n a) refl refl
+    where
+      by : (x y : Bool) → holds dataBase (length d) n a ≡ x → holds constantsBase (length constants) n a ≡ y
+          → Reads (cond x (part (partOf dataBase d n a)) (cond y (part (partOf constantsBase constants n a)) (outside a)))
+      by true y h k = whole (part-long dataBase d h)
+      by false true h k = whole (part-long constantsBase constants k)
+      by false false h k = none
+
+-- every size has a byte
+some-bytes : (w : Size) → 0 < bytes w
+unfolding bytes
+some-bytes Byte = omega arith
+some-bytes Word = omega arith
+some-bytes Dword = omega arith
+
+module _ (constants d : List ℕ) (w : Size) (a : ℕ) {m : ℕ} {got : List ℕ} (size : m ≡ bytes w) (is : got ≡ held (readOf constants d m a)) where
+  -- with no byte held a load gives the address
+  pub load-none : length got ≡ 0 → Loaded.Outside a ≡ loadOf constants d w a
+  unfolding held numbered loadOf
+  load-none empty = by (readOf constants d (bytes w) a) (reads constants d (bytes w) a) (rw size at is)
+    where
+      by : (r : Read) → Reads constants d (bytes w) a r → got ≡ held r → Loaded.Outside a ≡ numbered r
+      by (part l) (whole long) e = absurd (let some = some-bytes w in let z : length l ≡ 0 = rw (← e) empty in omega arith)
+      by (outside b) none e = refl
+
+  -- with some it gives the number of as many as the size has
+  pub load-some : (length got ≡ 0 → ⊥) → (length got ≡ bytes w) × (Value (littleEndian got) ≡ loadOf constants d w a)
+  unfolding held numbered loadOf
+  load-some some = by (readOf constants d (bytes w) a) (reads constants d (bytes w) a) (rw size at is)
+    where
+      by : (r : Read) → Reads constants d (bytes w) a r → got ≡ held r → (length got ≡ bytes w) × (Value (littleEndian got) ≡ numbered r)
+      by (part l) (whole long) e = (rw e long, rw e)
+      by (outside b) none e = absurd (some (rw e))
+
 module _ (d : List ℕ) (w : Size) (a : ℕ) where
-  -- an allowed load gives the number at its place
-  pub load-allowed : allowed (bytes w) a (length d) ≡ true
-      → loadOf d w a ≡ Value (littleEndian (take (bytes w) (drop (a - base) d)))
-  unfolding loadOf
-  load-allowed h = rw h
-
-  -- any other gives the address
-  pub load-outside : allowed (bytes w) a (length d) ≡ false → loadOf d w a ≡ Loaded.Outside a
-  unfolding loadOf
-  load-outside h = rw h
-
-  -- an allowed store is done
-  pub stored-allowed : allowed (bytes w) a (length d) ≡ true → storedOf d w a ≡ Done
+  -- a store that data holds is done
+  pub stored-held : holds dataBase (length d) (bytes w) a ≡ true → storedOf d w a ≡ Done
   unfolding storedOf
-  stored-allowed h = rw h
+  stored-held h = rw h
 
   -- any other gives the address
-  pub stored-outside : allowed (bytes w) a (length d) ≡ false → storedOf d w a ≡ Stored.Outside a
+  pub stored-outside : holds dataBase (length d) (bytes w) a ≡ false → storedOf d w a ≡ Stored.Outside a
   unfolding storedOf
   stored-outside h = rw h
 
   module _ (v : ℕ) where
-    -- an allowed store puts the number's bytes at its place
-    pub store-allowed : allowed (bytes w) a (length d) ≡ true
-        → storeOf d w a v ≡ sets d (a - base) (bytesOf (bytes w) v)
+    -- a store that data holds puts the number's bytes at its place
+    pub store-held : holds dataBase (length d) (bytes w) a ≡ true
+        → storeOf d w a v ≡ sets d (a - dataBase) (bytesOf (bytes w) v)
     unfolding storeOf
-    store-allowed h = rw h
+    store-held h = rw h
 
     -- any other leaves the data as it was
-    pub store-outside : allowed (bytes w) a (length d) ≡ false → storeOf d w a v ≡ d
+    pub store-outside : holds dataBase (length d) (bytes w) a ≡ false → storeOf d w a v ≡ d
     unfolding storeOf
     store-outside h = rw h
 
     -- a store leaves the data as long as it was
     pub store-length : length (storeOf d w a v) ≡ length d
     unfolding storeOf
-    store-length = by (allowed (bytes w) a (length d))
+    store-length = by (holds dataBase (length d) (bytes w) a)
       where
-        by : (b : Bool) → length (cond b (sets d (a - base) (bytesOf (bytes w) v)) d) ≡ length d
-        by true = length-sets d (a - base) (bytesOf (bytes w) v)
+        by : (b : Bool) → length (cond b (sets d (a - dataBase) (bytesOf (bytes w) v)) d) ≡ length d
+        by true = length-sets d (a - dataBase) (bytesOf (bytes w) v)
         by false = refl
+
+module _ (l : List ℕ) where
+  -- the number of a part of one byte
+  pub number-of-one : length l ≡ 1 → littleEndian l ≡ getD l 0 0
+  number-of-one long = ap littleEndian (sym (take-all 1 l (omega arith))) ∙ number-one l 0 (omega arith)
+
+  -- of two
+  pub number-of-two : length l ≡ 2 → littleEndian l ≡ getD l 0 0 + 256 * getD l 1 0
+  number-of-two long = ap littleEndian (sym (take-all 2 l (omega arith))) ∙ number-two l 0 (omega arith)
+
+  -- of four
+  pub number-of-four : length l ≡ 4 → littleEndian l ≡ getD l 0 0 + 256 * getD l 1 0 + 65536 * (getD l 2 0 + 256 * getD l 3 0)
+  number-of-four long = ap littleEndian (sym (take-all 4 l (omega arith))) ∙ number-four l 0 (omega arith)
 
 -- so many bytes are as many
 length-bytes : (n v : ℕ) → length (bytesOf n v) ≡ n
@@ -143,15 +230,16 @@ part-sets vs l i n e h =
       take-at vs _ n e,
     )
 
--- a load of what an allowed store stored gives the number's rest at the size
-pub load-store-same : (d : List ℕ) (w : Size) (a v : ℕ) → allowed (bytes w) a (length d) ≡ true
-    → loadOf (storeOf d w a v) w a ≡ Value (v % modulus w)
-load-store-same d w a v h =
-    let still : allowed (bytes w) a (length (storeOf d w a v)) ≡ true = rw (store-length d w a v) h in
-    let within = is-within (bytes w) a (length d) h in
-    load-allowed (storeOf d w a v) w a still
-    ∙ rw (
-      store-allowed d w a v h,
-      part-sets (bytesOf (bytes w) v) d (a - base) (bytes w) (length-bytes (bytes w) v) within,
+-- a load of what was stored in data gives the number's rest at the size
+pub load-store-same : (constants d : List ℕ) (w : Size) (a v : ℕ) → holds dataBase (length d) (bytes w) a ≡ true
+    → loadOf constants (storeOf d w a v) w a ≡ Value (v % modulus w)
+unfolding loadOf numbered partOf
+load-store-same constants d w a v h =
+    let still : holds dataBase (length (storeOf d w a v)) (bytes w) a ≡ true = rw (store-length d w a v) h in
+    let within = fits-in dataBase (length d) (bytes w) a h in
+    rw (
+      read-data constants (storeOf d w a v) (bytes w) a still,
+      store-held d w a v h,
+      part-sets (bytesOf (bytes w) v) d (a - dataBase) (bytes w) (length-bytes (bytes w) v) within,
       number-bytes w v,
     )

@@ -1,3 +1,4 @@
 -- The laws of `machine`. Assumes nothing.
 pub mod Access
+pub mod Allowed
 pub mod Parts

@@ -1,6 +1,6 @@
--- The lent data. Assumes nothing.
+-- The lent areas: data, read and written, and constants, which are only read. Assumes nothing.
 use mathlib.Core.Bool.{Bool, cond, _&&_}
-use mathlib.Core.List.{List}
+use mathlib.Core.List.{List, []}
 use Prim.Native.Nat.{ℕ, _+_, _-_}
 use lib.Dec.{leb}
 use lib.ListN.{length, take, drop}
@@ -16,26 +16,54 @@ use Rattle.machine.specs.declared.memory.Stored.{Stored}
 use Rattle.machine.specs.declared.memory.Stored.the-variants.{Done}
 
 -- data lies at 00100000h upward
-unfoldable pub base : ℕ
-base = 0x0010_0000
+unfoldable pub dataBase : ℕ
+dataBase = 0x0010_0000
 
--- an access of n bytes at address a to so many data bytes is allowed
-unfoldable pub allowed : ℕ → ℕ → ℕ → Bool
-allowed n a len = leb base a && leb (a + n) (base + len)
+-- constants lie at 00200000h upward
+unfoldable pub constantsBase : ℕ
+constantsBase = 0x0020_0000
 
--- where an access lies in the data, or the address that is outside
-unfoldable pub placeOf : ℕ → ℕ → ℕ → Located
-placeOf n a len = cond (allowed n a len) (At (a - base)) (Located.Outside a)
+-- an area of so many bytes at a base holds all of an access of n bytes at address a
+unfoldable pub holds : ℕ → ℕ → ℕ → ℕ → Bool
+holds base len n a = leb base a && leb (a + n) (base + len)
 
--- a load of a number of the size, the low byte first
-unfoldable pub loadOf : List ℕ → Size → ℕ → Loaded
-loadOf d w a =
-    cond (allowed (bytes w) a (length d)) (Value (littleEndian (take (bytes w) (drop (a - base) d)))) (Loaded.Outside a)
+-- where an access lies in such an area, or the address that is outside
+unfoldable pub placeOf : ℕ → ℕ → ℕ → ℕ → Located
+placeOf base len n a = cond (holds base len n a) (At (a - base)) (Located.Outside a)
 
--- whether a store is done
+-- the bytes of an access that an area at a base holds
+unfoldable pub partOf : ℕ → List ℕ → ℕ → ℕ → List ℕ
+partOf base area n a = take n (drop (a - base) area)
+
+-- what a read comes to: its bytes, or the address that is outside
+pub data Read : Type 0 where
+  part : List ℕ → Read
+  outside : ℕ → Read
+
+-- a read of n bytes: a part of whichever of data and constants holds it
+unfoldable pub readOf : List ℕ → List ℕ → ℕ → ℕ → Read
+readOf constants d n a =
+    cond (holds dataBase (length d) n a) (part (partOf dataBase d n a))
+    (cond (holds constantsBase (length constants) n a) (part (partOf constantsBase constants n a)) (outside a))
+
+-- the bytes that were read, none where neither area holds them
+unfoldable pub held : Read → List ℕ
+held (part bytes) = bytes
+held (outside a) = []
+
+-- the number that was read, the low byte first
+unfoldable pub numbered : Read → Loaded
+numbered (part bytes) = Value (littleEndian bytes)
+numbered (outside a) = Loaded.Outside a
+
+-- a load of a number of the size
+unfoldable pub loadOf : List ℕ → List ℕ → Size → ℕ → Loaded
+loadOf constants d w a = numbered (readOf constants d (bytes w) a)
+
+-- whether a store is done: to data only
 unfoldable pub storedOf : List ℕ → Size → ℕ → Stored
-storedOf d w a = cond (allowed (bytes w) a (length d)) Done (Stored.Outside a)
+storedOf d w a = cond (holds dataBase (length d) (bytes w) a) Done (Stored.Outside a)
 
 -- the data after a store of a number of the size, the low byte first
 unfoldable pub storeOf : List ℕ → Size → ℕ → ℕ → List ℕ
-storeOf d w a v = cond (allowed (bytes w) a (length d)) (sets d (a - base) (bytesOf (bytes w) v)) d
+storeOf d w a v = cond (holds dataBase (length d) (bytes w) a) (sets d (a - dataBase) (bytesOf (bytes w) v)) d

@@ -1,4 +1,4 @@
-// The lent data: which accesses are allowed, and what a load and a store do.
+// The lent areas, data and constants: which of them holds an access, and what a load and a store do.
 ghost use mathlib.Core.Path.{_≡_};
 ghost use Prim.Native.Nat.{_+_, _*_, _%_, _≤_};
 ghost use lib.ListN.{length, take, drop};
@@ -6,10 +6,10 @@ ghost use lib.Seq.{sets};
 ghost use Rattle.width.specs.Sizes.{bytes};
 ghost use Rattle.width.specs.Numbers.{Is};
 ghost use Rattle.width.specs.LittleEndian.{littleEndian, bytesOf};
-ghost use Rattle.machine.specs.Memory.{placeOf, loadOf, storeOf, storedOf};
+ghost use Rattle.machine.specs.Memory.{placeOf, readOf, held, loadOf, storeOf, storedOf};
 use width::Size;
 
-// Where an access lies in the data, or the address that is outside.
+// Where an access lies in an area, or the address that is outside.
 enum Located {
     At(usize),
     Outside(u32),
@@ -27,14 +27,20 @@ pub enum Stored {
     Outside(u32),
 }
 
-// The place of an access of n bytes at address a to so many data bytes.
-fn locate(n: usize, a: u32, len: usize) -> Located
-    ensures { λ r. ⌜ r ≡ placeOf n a len ⌝ }
+// Where data lies, and upward.
+const DATA: u32 = 0x0010_0000;
+
+// Where constants lie, and upward.
+const CONSTANTS: u32 = 0x0020_0000;
+
+// The place of an access of n bytes at address a in an area of so many bytes at a base.
+fn locate(base: u32, len: usize, n: usize, a: u32) -> Located
+    ensures { λ r. ⌜ r ≡ placeOf base len n a ⌝ }
 {
-    if a < 0x0010_0000 {
+    if a < base {
         return Located::Outside(a);
     }
-    let at = (a - 0x0010_0000) as usize;
+    let at = (a - base) as usize;
     if len < n {
         return Located::Outside(a);
     }
@@ -51,49 +57,63 @@ fn wide(b: u8) -> u32
     b as u32
 }
 
-// The number of two bytes.
+// The number of a low and a high byte.
 fn pair(low: u8, high: u8) -> u32
     ensures { λ r. ⌜ Is Size.Word (low + 256 * high) r ⌝ }
 {
     wide(low) + 256 * wide(high)
 }
 
-// The number of two bytes from a place on.
-fn word(area: &[u8], at: usize) -> u32
-    requires { ⌜ at + 2 ≤ length (now area) ⌝ }
-    ensures { λ r. ⌜ r ≡ littleEndian (take 2 (drop at (now (area .entry)))) ⌝ }
+// The number of a part of two bytes.
+fn word(part: &[u8]) -> u32
+    requires { ⌜ length (now part) ≡ 2 ⌝ }
+    ensures { λ r. ⌜ r ≡ littleEndian (now (part .entry)) ⌝ }
 {
-    pair(area[at], area[at + 1])
+    pair(part[0], part[1])
 }
 
-// The number of four bytes from a place on.
-fn dword(area: &[u8], at: usize) -> u32
-    requires { ⌜ at + 4 ≤ length (now area) ⌝ }
-    ensures { λ r. ⌜ r ≡ littleEndian (take 4 (drop at (now (area .entry)))) ⌝ }
+// The number of a part of four bytes.
+fn dword(part: &[u8]) -> u32
+    requires { ⌜ length (now part) ≡ 4 ⌝ }
+    ensures { λ r. ⌜ r ≡ littleEndian (now (part .entry)) ⌝ }
 {
-    pair(area[at], area[at + 1]) + 0x1_0000 * pair(area[at + 2], area[at + 3])
+    pair(part[0], part[1]) + 0x1_0000 * pair(part[2], part[3])
 }
 
-// The number of the size from a place on.
-fn number(area: &[u8], at: usize, w: Size) -> u32
-    requires { ⌜ at + bytes w ≤ length (now area) ⌝ }
-    ensures { λ r. ⌜ r ≡ littleEndian (take (bytes w) (drop at (now (area .entry)))) ⌝ }
+// The number of a part as long as the size.
+fn number(part: &[u8], w: Size) -> u32
+    requires { ⌜ length (now part) ≡ bytes w ⌝ }
+    ensures { λ r. ⌜ r ≡ littleEndian (now (part .entry)) ⌝ }
 {
     match w {
-        Size::Byte => wide(area[at]),
-        Size::Word => word(area, at),
-        Size::Dword => dword(area, at),
+        Size::Byte => wide(part[0]),
+        Size::Word => word(part),
+        Size::Dword => dword(part),
+    }
+}
+
+// The bytes of a read of n bytes at address a, as a part of whichever of the two areas holds them; none where neither does.
+pub fn held<'a>(constants: &'a [u8], area: &'a [u8], n: usize, a: u32) -> &'a [u8]
+    ensures { λ r. ⌜ now r ≡ held (readOf (now (constants .entry)) (now (area .entry)) n a) ⌝ }
+{
+    match locate(DATA, area.len(), n, a) {
+        Located::At(at) => &area[at..at + n],
+        Located::Outside(_) => match locate(CONSTANTS, constants.len(), n, a) {
+            Located::At(at) => &constants[at..at + n],
+            Located::Outside(_) => &constants[..0],
+        },
     }
 }
 
 // A load of a number of the size.
-pub fn load(area: &[u8], w: Size, a: u32) -> Loaded
-    ensures { λ r. ⌜ r ≡ loadOf (now (area .entry)) w a ⌝ }
+pub fn load<'a>(constants: &'a [u8], area: &'a [u8], w: Size, a: u32) -> Loaded
+    ensures { λ r. ⌜ r ≡ loadOf (now (constants .entry)) (now (area .entry)) w a ⌝ }
 {
-    match locate(width::bytes(w), a, area.len()) {
-        Located::At(at) => Loaded::Value(number(area, at, w)),
-        Located::Outside(b) => Loaded::Outside(b),
+    let part = held(constants, area, width::bytes(w), a);
+    if part.len() == 0 {
+        return Loaded::Outside(a);
     }
+    Loaded::Value(number(part, w))
 }
 
 // A number's lowest byte.
@@ -139,7 +159,7 @@ fn put(area: &mut [u8], at: usize, w: Size, v: u32)
 pub fn store(area: &mut [u8], w: Size, a: u32, v: u32) -> Stored
     ensures { λ r. ⌜ (r ≡ storedOf (now (area .entry)) w a) × (now (area .exit) ≡ storeOf (now (area .entry)) w a v) ⌝ }
 {
-    match locate(width::bytes(w), a, area.len()) {
+    match locate(DATA, area.len(), width::bytes(w), a) {
         Located::At(at) => {
             put(area, at, w, v);
             Stored::Done

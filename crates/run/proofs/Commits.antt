@@ -2,7 +2,7 @@
 use mathlib.Core.Path.{_≡_, refl, sym, _∙_}
 use mathlib.Core.Bool.{Bool, true, false}
 use mathlib.Core.List.{List}
-use Prim.Native.Nat.{ℕ}
+use Prim.Native.Nat.{ℕ, _≤_}
 use native.Mathlib.Omega.{arith}
 use lib.ListN.{length}
 use Rattle.width.specs.declared.Size.{Size}
@@ -10,20 +10,21 @@ use Rattle.width.specs.Sizes.{bytes}
 use Rattle.machine.specs.declared.registers.Machine.{Machine}
 use Rattle.machine.specs.declared.memory.Stored.{Stored}
 use Rattle.machine.specs.declared.memory.Stored.the-variants.{Done}
-use Rattle.machine.specs.Memory.{allowed, storedOf, storeOf}
-use Rattle.machine.proofs.Access.{stored-allowed, store-outside}
+use Rattle.machine.specs.Memory.{dataBase, constantsBase, holds, storedOf, storeOf}
+use Rattle.machine.proofs.Access.{stored-held, store-outside}
+use Rattle.machine.proofs.Allowed.{constants-unwritten}
 use Rattle.effect.specs.declared.outcome.Outcome.the-variants.{Writes}
 use Rattle.effect.specs.declared.outcome.Effect.{Effect}
 use Rattle.run.specs.declared.step.Stepped.{Stepped}
-use Rattle.run.specs.Steps.{Steps, movedTo, stoppedAt, steppedOf, dataAfter, stored, committed}
+use Rattle.run.specs.Steps.{Steps, stop, movedTo, stoppedAt, steppedOf, dataAfter, stored, committed}
 
 -- a store that is outside leaves the data as it was
 unstored : (d : List ℕ) (w : Size) (a v b : ℕ) → storedOf d w a ≡ Stored.Outside b → storeOf d w a v ≡ d
-unstored d w a v b h = by (allowed (bytes w) a (length d)) refl
+unstored d w a v b h = by (holds dataBase (length d) (bytes w) a) refl
   where
-    by : (x : Bool) → allowed (bytes w) a (length d) ≡ x → storeOf d w a v ≡ d
+    by : (x : Bool) → holds dataBase (length d) (bytes w) a ≡ x → storeOf d w a v ≡ d
     by true e =
-        let done = stored-allowed d w a e in
+        let done = stored-held d w a e in
         absurd (let z : _≡_ {A = ℕ} 0 1 = cc in omega arith)
     by false e = store-outside d w a v e
 
@@ -42,3 +43,9 @@ module _ (e : Effect) (m : Machine) (d : List ℕ) {r : Stepped} {s : Stored} {d
   unwritten b outside is =
       rw (writes, ← answer, outside)
       (record { is = is; left = left ∙ unstored d (e .size) (e .address) (e .value) b (sym answer ∙ outside) })
+
+-- a memory destination at a constant's address gives 6, with data of a length that is not refused
+pub constants-give-6 : (e : Effect) (m : Machine) (d : List ℕ) → e .outcome ≡ Writes → length d ≤ 65_536 → constantsBase ≤ e .address
+    → committed (e .outcome) e m d ≡ stop 6 (e .address)
+unfolding committed stored
+constants-give-6 e m d writes long at = rw (writes, constants-unwritten d (e .size) (e .address) long at)

@@ -25,22 +25,22 @@ either : (m : Machine) (d : List ℕ) (b : Bool) {x y : Moved} → Keeps m d x �
 either m d true p q = p
 either m d false p q = q
 
-executed-keeps : (f : Found) (m : Machine) (d : List ℕ) → Keeps m d (executed f m d)
+executed-keeps : (fixed : Fixed) (f : Found) (m : Machine) (d : List ℕ) → Keeps m d (executed fixed f m d)
 unfolding executed
-executed-keeps (Found.Instruction i) m d = from (planned-comes (planOf (m .eip) i) m d)
+executed-keeps fixed (Found.Instruction i) m d = from (planned-comes (fixed .constants) (planOf (m .eip) i) m d)
   where
     from : {a : ℕ} {v : Moved} → Comes (planOf (m .eip) i) m a d v → Keeps m d v
     from {a} (goes-on r s l) = moves (record { registers = regs-kept ((planOf (m .eip) i) .operation) m (planOf (m .eip) i) a r s; long = l })
     from (Comes.stops n low high) = stops
-executed-keeps Found.Cut m d = stops
-executed-keeps Found.Unknown m d = stops
+executed-keeps fixed Found.Cut m d = stops
+executed-keeps fixed Found.Unknown m d = stops
 
 -- a step keeps both
 pub step-keeps : (fixed : Fixed) (m : Machine) (d : List ℕ) → Keeps m d (stepOf fixed m d)
 unfolding stepOf
 step-keeps fixed m d =
     either m d (eqb (m .eip) home) stops
-    (either m d (inside (fixed .code) (m .eip)) (executed-keeps (decodeOf (fixed .code) (m .eip - codeBase)) m d) stops)
+    (either m d (inside (fixed .code) (m .eip)) (executed-keeps fixed (decodeOf (fixed .code) (m .eip - codeBase)) m d) stops)
 
 -- and so do the steps of a run
 pub run-keeps : (fixed : Fixed) (b : ℕ) (m : Machine) (d : List ℕ) (k : ℕ) → Kept m d ((runFrom fixed b m d k) .machine) ((runFrom fixed b m d k) .area)

@@ -1,4 +1,4 @@
--- Demand 2's law: n steps and then m end as n + m do, and the step counts add up. Assumes nothing.
+-- Demand 2's law: n steps and then m, with the same code and constants throughout, end as n + m do, and the step counts add up. Assumes nothing.
 use mathlib.Core.Path.{_≡_, refl, sym, ap, _∙_}
 use mathlib.Core.Bool.{Bool, true, false, cond, not, _||_}
 use mathlib.Core.List.{List}
@@ -83,13 +83,14 @@ within fixed d w b h = rw (le-ltb 1_000_000 b h)
 passing : (fixed : Fixed) (d d′ : List ℕ) (w w′ : ℕ) → length d′ ≡ length d → refusalOf fixed d w 0 ≡ 0 → passes w′ ≡ true → refusalOf fixed d′ w′ 0 ≡ 0
 unfolding refusal
 passing fixed d d′ w w′ long =
-    rw long (by (eqb (length (fixed .code)) 0 || ltb 65_536 (length (fixed .code))) (ltb 65_536 (length d)) (passes w) (passes w′))
+    rw long (by (eqb (length (fixed .code)) 0 || ltb 65_536 (length (fixed .code))) (ltb 65_536 (length d)) (ltb 65_536 (length (fixed .constants))) (passes w) (passes w′))
   where
-    by : (x y z z′ : Bool) → _≡_ {A = ℕ} (cond x 10 (cond y 11 (cond (not z) 12 0))) 0 → z′ ≡ true
-        → _≡_ {A = ℕ} (cond x 10 (cond y 11 (cond (not z′) 12 0))) 0
-    by true y z z′ h e = h
-    by false true z z′ h e = h
-    by false false z z′ h e = rw e
+    by : (x y u z z′ : Bool) → _≡_ {A = ℕ} (cond x 10 (cond y 11 (cond u 15 (cond (not z) 12 0)))) 0 → z′ ≡ true
+        → _≡_ {A = ℕ} (cond x 10 (cond y 11 (cond u 15 (cond (not z′) 12 0)))) 0
+    by true y u z z′ h e = h
+    by false true u z z′ h e = h
+    by false false true z z′ h e = h
+    by false false false z z′ h e = rw e
 
 -- a machine that is handed back opens as it was
 reopened : (m : Machine) → opened (closed m) ≡ m
@@ -137,7 +138,7 @@ module _ (fixed : Fixed) (l : Lent) (d : List ℕ) (n m : ℕ) (some : 0 < m) (s
       )
       (record { machine = refl; area = refl; number = refl; address = refl; steps = refl })
 
-  -- n steps and then m, m at least 1 and n + m within the limit, end as n + m steps do
+  -- n steps and then m, m at least 1 and n + m within the limit, end as n + m steps do, all three with the same code and constants
   pub law : Joined (runOf fixed l d n) (runOf fixed ((runOf fixed l d n) .ran .machine) ((runOf fixed l d n) .area) m) (runOf fixed l d (n + m))
   unfolding taken refused
   law = by (refusalOf fixed d (l .word) 0) refl

@@ -30,7 +30,7 @@ module _ (fixed : Fixed) (m : Machine) (d : List ℕ) where
       )
 
   pub in-code : (m .eip ≡ home → ⊥) → codeBase ≤ m .eip → m .eip - codeBase < length (fixed .code)
-      → stepOf fixed m d ≡ executed (decodeOf (fixed .code) (m .eip - codeBase)) m d
+      → stepOf fixed m d ≡ executed fixed (decodeOf (fixed .code) (m .eip - codeBase)) m d
   unfolding stepOf inside
   in-code away h l =
       rw (

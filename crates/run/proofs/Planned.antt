@@ -56,20 +56,21 @@ module _ (p : Plan) (m : Machine) (a : ℕ) (d : List ℕ) where
   loaded-comes (Loaded.Outside b) go h = stops 5 (omega arith) (omega arith)
 
   -- with the reads, and then the effect
-  performed-comes : (reads : Reads) → Comes p m a d (performed reads p m a d)
+  performed-comes : (constants : List ℕ) (reads : Reads) → Comes p m a d (performed constants reads p m a d)
   unfolding performed
-  performed-comes Nothing = finished-comes 0 0
-  performed-comes (One w b) = loaded-comes (loadOf d w b) _ (λ r. finished-comes r 0)
-  performed-comes (Two w b c) = loaded-comes (loadOf d w b) _ (λ r. loaded-comes (loadOf d w c) _ (λ s. finished-comes r s))
+  performed-comes constants Nothing = finished-comes 0 0
+  performed-comes constants (One w b) = loaded-comes (loadOf constants d w b) _ (λ r. finished-comes r 0)
+  performed-comes constants (Two w b c) =
+      loaded-comes (loadOf constants d w b) _ (λ r. loaded-comes (loadOf constants d w c) _ (λ s. finished-comes r s))
 
-module _ (p : Plan) (m : Machine) (d : List ℕ) where
+module _ (constants : List ℕ) (p : Plan) (m : Machine) (d : List ℕ) where
   -- with the step of a plan
-  pub planned-comes : Comes p m (operandAddress p m) d (planned p m d)
+  pub planned-comes : Comes p m (operandAddress p m) d (planned constants p m d)
   unfolding planned
-  planned-comes = performed-comes p m _ d _
+  planned-comes = performed-comes p m _ d constants _
 
   -- the step of a plan stops only with 5, 6 or 7
-  pub planned-stops : {n a : ℕ} → planned p m d ≡ stop n a → (5 ≤ n) × (n ≤ 7)
+  pub planned-stops : {n a : ℕ} → planned constants p m d ≡ stop n a → (5 ≤ n) × (n ≤ 7)
   planned-stops {n} {a} = by planned-comes
     where
       by : {moved : Moved} → Comes p m (operandAddress p m) d moved → moved ≡ stop n a → (5 ≤ n) × (n ≤ 7)
@@ -77,7 +78,7 @@ module _ (p : Plan) (m : Machine) (d : List ℕ) where
       by (stops k l h) e = let z : n ≡ k = cc in (omega arith, omega arith)
 
   -- and goes on only to the machine of its effect
-  pub planned-goes : {m′ : Machine} {d′ : List ℕ} → planned p m d ≡ next m′ d′ → Effected p m m′
+  pub planned-goes : {m′ : Machine} {d′ : List ℕ} → planned constants p m d ≡ next m′ d′ → Effected p m m′
   planned-goes {m′} {d′} = by planned-comes
     where
       by : {moved : Moved} → Comes p m (operandAddress p m) d moved → moved ≡ next m′ d′ → Effected p m m′

@@ -57,9 +57,9 @@ pub record Round (i : Decoded) (m m′ : Machine) (n : ℕ) : Type 0 where
   pub many : length (m′ .regs) ≡ 8
   pub place : m′ .eip ≡ cond (eqb n 0) ((planOf (m .eip) i) .next) (m .eip)
 
-module _ {fixed : Fixed} {i : Decoded} {op : Strings} {m : Machine} (at : Repeating (fixed .code) i op m) where
+module _ {fixed : Fixed} {i : Decoded} {op : Strings} {m : Machine} (at : Repeating fixed i op m) where
   -- a machine with the same EIP is at the instruction too
-  still : {m′ : Machine} → m′ .eip ≡ m .eip → length (m′ .regs) ≡ 8 → Repeating (fixed .code) i op m′
+  still : {m′ : Machine} → m′ .eip ≡ m .eip → length (m′ .regs) ≡ 8 → Repeating fixed i op m′
   still {m′} place eight =
       record {
         place =
@@ -96,7 +96,7 @@ module _ {fixed : Fixed} {i : Decoded} {op : Strings} {m : Machine} (at : Repeat
 
   module _ (d : List ℕ) where
     -- the step is that of the plan
-    is-planned : stepOf fixed m d ≡ planned (planOf (m .eip) i) m d
+    is-planned : stepOf fixed m d ≡ planned (fixed .constants) (planOf (m .eip) i) m d
     unfolding executed
     is-planned = step-found fixed m d (at .place) ∙ rw (at .found)
 
@@ -113,7 +113,7 @@ module _ {fixed : Fixed} {i : Decoded} {op : Strings} {m : Machine} (at : Repeat
         → stepOf fixed m d ≡ next m′ d′ → Round i m m′ n
     one-round {n} count bound e =
         let p = planOf (m .eip) i in
-        let done = planned-goes p m d (sym is-planned ∙ e) in
+        let done = planned-goes (fixed .constants) p m d (sym is-planned ∙ e) in
         let r = done .r in
         let s = done .s in
         let is = done .is ∙ ap (λ (x : Effect). x .machine) (is-effect _ r s) in
@@ -125,7 +125,7 @@ module _ {fixed : Fixed} {i : Decoded} {op : Strings} {m : Machine} (at : Repeat
 
     -- one that is not the last leaves EIP at the instruction
     not-last : {m′ : Machine} {d′ : List ℕ} (n : ℕ) → register m ecx ≡ suc (suc n) → register m ecx < 2 ^ 32
-        → stepOf fixed m d ≡ next m′ d′ → Left (fixed .code) i op m m′ (suc n)
+        → stepOf fixed m d ≡ next m′ d′ → Left fixed i op m m′ (suc n)
     not-last n count bound e =
         let round = one-round count bound e in
         let place = rw (ne-eqb (suc n) 0 (λ z. omega arith)) at (round .place) in
@@ -133,8 +133,8 @@ module _ {fixed : Fixed} {i : Decoded} {op : Strings} {m : Machine} (at : Repeat
 
 module _ {fixed : Fixed} {i : Decoded} {op : Strings} where
   -- after k steps, fewer than n, from ECX = n
-  rounds-left : {m m′ : Machine} {d d′ : List ℕ} {n k : ℕ} → Repeating (fixed .code) i op m → register m ecx ≡ n → n < 2 ^ 32
-      → After fixed k m d m′ d′ → k < n → Left (fixed .code) i op m m′ (n - k)
+  rounds-left : {m m′ : Machine} {d d′ : List ℕ} {n k : ℕ} → Repeating fixed i op m → register m ecx ≡ n → n < 2 ^ 32
+      → After fixed k m d m′ d′ → k < n → Left fixed i op m m′ (n - k)
   rounds-left at count bound here h = record { again = at; place = refl; count = omega arith }
   rounds-left {d} {n} {k = suc k} at count bound (on e more) h =
       let one = not-last at d (n - 2) (omega arith) (omega arith) e in
@@ -142,7 +142,7 @@ module _ {fixed : Fixed} {i : Decoded} {op : Strings} where
       record { again = later .again; place = later .place ∙ one .place; count = omega (arith, later .count) }
 
   -- after as many steps as ECX says, at least one
-  rounds-over : {m m′ : Machine} {d d′ : List ℕ} {n : ℕ} → Repeating (fixed .code) i op m → register m ecx ≡ suc n → suc n < 2 ^ 32
+  rounds-over : {m m′ : Machine} {d d′ : List ℕ} {n : ℕ} → Repeating fixed i op m → register m ecx ≡ suc n → suc n < 2 ^ 32
       → After fixed (suc n) m d m′ d′ → Over i m m′
   rounds-over {d} at count bound (on e here) =
       let round = one-round at d count (omega arith) e in
@@ -153,15 +153,15 @@ module _ {fixed : Fixed} {i : Decoded} {op : Strings} where
       record { place = later .place ∙ ap (λ (p : Plan). p .next) (same-plan m m₁ i (one .place)); count = later .count }
 
   -- after k of the steps for ECX = n, and not yet all, EIP is still at the instruction, with ECX = n - k
-  pub stays-before : {m m′ : Machine} {d d′ : List ℕ} (n : ℕ) {k : ℕ} → Repeating (fixed .code) i op m → register m ecx ≡ n → n < 2 ^ 32
-      → After fixed k m d m′ d′ → k < stepsFor n → Left (fixed .code) i op m m′ (n - k)
+  pub stays-before : {m m′ : Machine} {d d′ : List ℕ} (n : ℕ) {k : ℕ} → Repeating fixed i op m → register m ecx ≡ n → n < 2 ^ 32
+      → After fixed k m d m′ d′ → k < stepsFor n → Left fixed i op m m′ (n - k)
   unfolding stepsFor
   stays-before zero at count bound here h = record { again = at; place = refl; count = count }
   stays-before zero at count bound (on e more) h = absurd (omega arith)
   stays-before (suc n) at count bound steps h = rounds-left at count bound steps h
 
   -- after them all the repetition is over
-  pub over-after : {m m′ : Machine} {d d′ : List ℕ} (n : ℕ) → Repeating (fixed .code) i op m → register m ecx ≡ n → n < 2 ^ 32
+  pub over-after : {m m′ : Machine} {d d′ : List ℕ} (n : ℕ) → Repeating fixed i op m → register m ecx ≡ n → n < 2 ^ 32
       → After fixed (stepsFor n) m d m′ d′ → Over i m m′
   unfolding stepsFor register withEip
   over-after {m} {m′} {d} zero at count bound (on e here) =
@@ -171,7 +171,7 @@ module _ {fixed : Fixed} {i : Decoded} {op : Strings} where
   over-after (suc n) at count bound steps = rounds-over at count bound steps
 
   -- so exactly these steps are taken at the instruction: up to them all, EIP is there exactly before the last is done
-  pub exactly-steps : {m m′ : Machine} {d d′ : List ℕ} (n : ℕ) {k : ℕ} → Repeating (fixed .code) i op m → register m ecx ≡ n → n < 2 ^ 32
+  pub exactly-steps : {m m′ : Machine} {d d′ : List ℕ} (n : ℕ) {k : ℕ} → Repeating fixed i op m → register m ecx ≡ n → n < 2 ^ 32
       → After fixed k m d m′ d′ → k ≤ stepsFor n → (m′ .eip ≡ m .eip) ↔ (k < stepsFor n)
   exactly-steps n at count bound steps within = (
     λ still-there. ⊎-elim

@@ -22,52 +22,52 @@ use Rattle.run.proofs.Places.{at-home, below-code, past-code, in-code}
 
 module _ (code : List ℕ) (eip : ℕ) where
   -- a site that stops with a number tells the steps that do
-  tells-stop : {number : ℕ} {s : Site} → Stops eip number s → ((m : Machine) (d : List ℕ) → m .eip ≡ eip → stepOf (fixedTo code) m d ≡ stop number (m .eip))
+  tells-stop : {number : ℕ} {s : Site} → Stops eip number s → ((constants : List ℕ) (m : Machine) (d : List ℕ) → m .eip ≡ eip → stepOf (fixedTo code constants) m d ≡ stop number (m .eip))
       → Tells code eip s
   unfolding siteStep
   tells-stop stops steps =
-      record { place = stops .place; is = λ m d e. steps m d e ∙ rw (stops .unplanned, stops .with) refl }
+      record { place = stops .place; is = λ c m d e. steps c m d e ∙ rw (stops .unplanned, stops .with) refl }
 
   -- 1: EIP is home
   pub tells-home : {s : Site} → Stops eip 1 s → eip ≡ home → Tells code eip s
-  tells-home stops h = tells-stop stops (λ m d e. at-home (fixedTo code) m d (e ∙ h))
+  tells-home stops h = tells-stop stops (λ c m d e. at-home (fixedTo code c) m d (e ∙ h))
 
   module _ (away : eip ≡ home → ⊥) where
     -- 2: EIP below the code
     pub tells-below : {s : Site} → Stops eip 2 s → eip < codeBase → Tells code eip s
-    tells-below stops low = tells-stop stops (λ m d e. below-code (fixedTo code) m d (λ z. away (sym e ∙ z)) (rw e low))
+    tells-below stops low = tells-stop stops (λ c m d e. below-code (fixedTo code c) m d (λ z. away (sym e ∙ z)) (rw e low))
 
     module _ (low : codeBase ≤ eip) where
       -- 2: EIP past the code
       pub tells-past : {s : Site} → Stops eip 2 s → length code ≤ eip - codeBase → Tells code eip s
-      tells-past stops high = tells-stop stops (λ m d e. past-code (fixedTo code) m d (λ z. away (sym e ∙ z)) (rw e low) (rw e high))
+      tells-past stops high = tells-stop stops (λ c m d e. past-code (fixedTo code c) m d (λ z. away (sym e ∙ z)) (rw e low) (rw e high))
 
       module _ (high : eip - codeBase < length code) where
         -- a step inside the code is that of what is found there
-        found : (f : Found) → decodeOf code (eip - codeBase) ≡ f → (m : Machine) (d : List ℕ) → m .eip ≡ eip → stepOf (fixedTo code) m d ≡ executed f m d
-        found f is m d e = in-code (fixedTo code) m d (λ z. away (sym e ∙ z)) (rw e low) (rw e high) ∙ rw (e, is)
+        found : (f : Found) → decodeOf code (eip - codeBase) ≡ f → (c : List ℕ) (m : Machine) (d : List ℕ) → m .eip ≡ eip → stepOf (fixedTo code c) m d ≡ executed (fixedTo code c) f m d
+        found f is c m d e = in-code (fixedTo code c) m d (λ z. away (sym e ∙ z)) (rw e low) (rw e high) ∙ rw (e, is)
 
         -- 3: cut
         pub tells-cut : {s : Site} → Stops eip 3 s → decodeOf code (eip - codeBase) ≡ Found.Cut → Tells code eip s
         unfolding executed
-        tells-cut stops is = tells-stop stops (λ m d e. found Found.Cut is m d e)
+        tells-cut stops is = tells-stop stops (λ c m d e. found Found.Cut is c m d e)
 
         -- 4: no such instruction
         pub tells-unknown : {s : Site} → Stops eip 4 s → decodeOf code (eip - codeBase) ≡ Found.Unknown → Tells code eip s
         unfolding executed
-        tells-unknown stops is = tells-stop stops (λ m d e. found Found.Unknown is m d e)
+        tells-unknown stops is = tells-stop stops (λ c m d e. found Found.Unknown is c m d e)
 
         -- an instruction: the step is that of its plan
         pub tells-plan : {s : Site} (i : Decoded) → s .planned ≡ true → s .eip ≡ eip → s .plan ≡ planOf eip i
             → decodeOf code (eip - codeBase) ≡ Found.Instruction i → Tells code eip s
         unfolding executed siteStep
         tells-plan i has place plan is =
-            record { place = place; is = λ m d e. found (Found.Instruction i) is m d e ∙ rw (has, plan, e) refl }
+            record { place = place; is = λ c m d e. found (Found.Instruction i) is c m d e ∙ rw (has, plan, e) refl }
 
 -- the step of a site that tells them is the step
-pub taken : {code : List ℕ} {eip : ℕ} {s : Site} → Tells code eip s → {m : Machine} {d after : List ℕ} {r : Stepped} → m .eip ≡ eip
-    → Steps (siteStep s m d) m d r after → Steps (stepOf (fixedTo code) m d) m d r after
-taken t {m} {d} at steps = rw (t .is m d at) steps
+pub taken : {code : List ℕ} {eip : ℕ} {s : Site} → Tells code eip s → (constants : List ℕ) {m : Machine} {d after : List ℕ} {r : Stepped} → m .eip ≡ eip
+    → Steps (siteStep constants s m d) m d r after → Steps (stepOf (fixedTo code constants) m d) m d r after
+taken t constants {m} {d} at steps = rw (t .is constants m d at) steps
 
 -- a site that has a plan tells each step at its EIP
 pub record Right (code : List ℕ) (s : Site) : Type 0 where
@@ -75,7 +75,7 @@ pub record Right (code : List ℕ) (s : Site) : Type 0 where
 
 -- what tells the steps at an EIP is right
 right : {code : List ℕ} {eip : ℕ} {s : Site} → Tells code eip s → Right code s
-right t = record { tells = λ has. record { place = refl; is = λ m d e. t .is m d (e ∙ t .place) } }
+right t = record { tells = λ has. record { place = refl; is = λ c m d e. t .is c m d (e ∙ t .place) } }
 
 -- a right site that has a plan and is that of an EIP tells the steps there
 hit : {code : List ℕ} {eip : ℕ} {s : Site} → Right code s → (s .planned && eqb (s .eip) eip) ≡ true → Tells code eip s
@@ -84,7 +84,7 @@ hit {code} {eip} {s} r both = by (s .planned) refl both
     by : (has : Bool) → s .planned ≡ has → (has && eqb (s .eip) eip) ≡ true → Tells code eip s
     by true e same =
         let place = eqb-true (s .eip) eip same in
-        record { place = place; is = λ m d at. r .tells e .is m d (at ∙ sym place) }
+        record { place = place; is = λ c m d at. r .tells e .is c m d (at ∙ sym place) }
     by false e same = absurd (let z : _≡_ {A = ℕ} 0 1 = cc in omega arith)
 
 -- sites are kept, as many as there are slots, and each is right

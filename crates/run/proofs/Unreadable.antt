@@ -22,7 +22,7 @@ use Rattle.run.proofs.Planned.{planned-stops}
 
 -- inside the code a step is that of what decode finds at EIP
 pub step-found : (fixed : Fixed) (m : Machine) (d : List ℕ) → InCode (fixed .code) m
-    → stepOf fixed m d ≡ executed (decodeOf (fixed .code) (m .eip - codeBase)) m d
+    → stepOf fixed m d ≡ executed fixed (decodeOf (fixed .code) (m .eip - codeBase)) m d
 step-found fixed m d p = in-code fixed m d (p .away) (p .low) (p .high)
 
 -- why a step stops with the number n and the address a
@@ -42,8 +42,8 @@ module _ (fixed : Fixed) (m : Machine) (d : List ℕ) where
       at : ℕ
       at = m .eip - codeBase
 
-      by : (f : Found) → decodeOf (fixed .code) at ≡ f → executed f m d ≡ stop n a → Halts (fixed .code) m n a
-      by (Found.Instruction i) f e = let h = planned-stops _ m d e in late (h .0) (h .1)
+      by : (f : Found) → decodeOf (fixed .code) at ≡ f → executed fixed f m d ≡ stop n a → Halts (fixed .code) m n a
+      by (Found.Instruction i) f e = let h = planned-stops _ _ m d e in late (h .0) (h .1)
       by Found.Cut f e = third (cc) (record { place = p; address = cc; prefix = found-cut (fixed .code) at f })
       by Found.Unknown f e =
           let h = found-unknown (fixed .code) at f in
@@ -95,7 +95,7 @@ module _ (fixed : Fixed) (m : Machine) (d : List ℕ) where
           ∙ rw (answers-decode (fixed .code) (m .eip - codeBase) (unknown (h .begins-with-none) (h .no-prefix)), h .address)
 
   -- where they begin with an instruction, the step is that of its plan
-  pub instruction-steps : InCode (fixed .code) m → (i : Begins (fromEip (fixed .code) m)) → stepOf fixed m d ≡ planned (planOf (m .eip) (numbers (i .instruction .parts))) m d
+  pub instruction-steps : InCode (fixed .code) m → (i : Begins (fromEip (fixed .code) m)) → stepOf fixed m d ≡ planned (fixed .constants) (planOf (m .eip) (numbers (i .instruction .parts))) m d
   unfolding executed
   instruction-steps place i = step-found fixed m d place ∙ rw (answers-decode (fixed .code) (m .eip - codeBase) (instruction i))
 

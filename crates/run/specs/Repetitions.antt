@@ -26,17 +26,17 @@ pub data After (fixed : Fixed) : ℕ → Machine → List ℕ → Machine → Li
       → After fixed (suc k) m d m₂ d₂
 
 -- EIP is at MOVS, STOS or LODS under F3, in a machine of eight registers
-pub record Repeating (code : List ℕ) (i : Decoded) (op : Strings) (m : Machine) : Type 0 where
-  pub place : InCode code m
-  pub found : decodeOf code (m .eip - codeBase) ≡ Found.Instruction i
+pub record Repeating (fixed : Fixed) (i : Decoded) (op : Strings) (m : Machine) : Type 0 where
+  pub place : InCode (fixed .code) m
+  pub found : decodeOf (fixed .code) (m .eip - codeBase) ≡ Found.Instruction i
   pub operation : (planOf (m .eip) i) .operation ≡ Operation.Strings op
   pub plain : compares op ≡ false
   pub prefix : (planOf (m .eip) i) .repeat ≡ Repeat.F3
   pub eight : length (m .regs) ≡ 8
 
 -- the repetition goes on: EIP is still at the instruction, with ECX = n
-pub record Left (code : List ℕ) (i : Decoded) (op : Strings) (m m′ : Machine) (n : ℕ) : Type 0 where
-  pub again : Repeating code i op m′
+pub record Left (fixed : Fixed) (i : Decoded) (op : Strings) (m m′ : Machine) (n : ℕ) : Type 0 where
+  pub again : Repeating fixed i op m′
   pub place : m′ .eip ≡ m .eip
   pub count : register m′ ecx ≡ n
 

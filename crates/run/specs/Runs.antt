@@ -1,4 +1,4 @@
--- A run: refusals 10 to 13 before any step, then steps until the budget is used up or one stops. Assumes nothing.
+-- A run: refusals 10 to 13 and 15 before any step, then steps until the budget is used up or one stops. Assumes nothing.
 use mathlib.Core.Path.{_≡_}
 use mathlib.Core.Bool.{cond, not, _||_}
 use mathlib.Core.List.{List}
@@ -37,15 +37,16 @@ runFrom fixed (suc b) m d k =
     onMoved (stepOf fixed m d) (λ m′ d′. runFrom fixed b m′ d′ (suc k))
     (λ n a. record { machine = m; area = d; steps = k; number = n; address = a })
 
--- the number that a run is refused with, 0 if it is not: code length, data length, flags word, budget, in that order
-unfoldable pub refusal : ℕ → ℕ → ℕ → ℕ → ℕ
-refusal code-length data-length word budget =
+-- the number that a run is refused with, 0 if it is not: code length, data length, constants length, flags word, budget, in that order
+unfoldable pub refusal : ℕ → ℕ → ℕ → ℕ → ℕ → ℕ
+refusal code-length data-length constants-length word budget =
     cond (eqb code-length 0 || ltb 65_536 code-length) 10
-    (cond (ltb 65_536 data-length) 11 (cond (not (passes word)) 12 (cond (ltb 1_000_000 budget) 13 0)))
+    (cond (ltb 65_536 data-length) 11
+    (cond (ltb 65_536 constants-length) 15 (cond (not (passes word)) 12 (cond (ltb 1_000_000 budget) 13 0))))
 
 -- the same of a run over these areas
 abbrev pub refusalOf : Fixed → List ℕ → ℕ → ℕ → ℕ
-refusalOf fixed d word budget = refusal (length (fixed .code)) (length d) word budget
+refusalOf fixed d word budget = refusal (length (fixed .code)) (length d) (length (fixed .constants)) word budget
 
 -- the lent machine, with its flags taken apart
 unfoldable pub opened : Lent → Machine

@@ -8,8 +8,8 @@ use Rattle.run.specs.declared.site.Site.{Site}
 use Rattle.run.specs.Steps.{fixedTo, Moved, stop, planned, stepOf}
 
 -- the step of a site: that of its plan, or a stop at EIP
-unfoldable pub siteStep : Site → Machine → List ℕ → Moved
-siteStep s m d = cond (s .planned) (planned (s .plan) m d) (stop (s .number) (m .eip))
+unfoldable pub siteStep : List ℕ → Site → Machine → List ℕ → Moved
+siteStep constants s m d = cond (s .planned) (planned constants (s .plan) m d) (stop (s .number) (m .eip))
 
 -- a site of an EIP where a step stops with a number
 pub record Stops (eip number : ℕ) (s : Site) : Type 0 where
@@ -17,7 +17,7 @@ pub record Stops (eip number : ℕ) (s : Site) : Type 0 where
   pub place : s .eip ≡ eip
   pub with : s .number ≡ number
 
--- a site tells each step at an EIP
+-- a site tells each step at an EIP, whatever the constants
 pub record Tells (code : List ℕ) (eip : ℕ) (s : Site) : Type 0 where
   pub place : s .eip ≡ eip
-  pub is : (m : Machine) (d : List ℕ) → m .eip ≡ eip → stepOf (fixedTo code) m d ≡ siteStep s m d
+  pub is : (constants : List ℕ) (m : Machine) (d : List ℕ) → m .eip ≡ eip → stepOf (fixedTo code constants) m d ≡ siteStep constants s m d

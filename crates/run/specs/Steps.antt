@@ -25,13 +25,14 @@ use Rattle.effect.specs.declared.outcome.Reads.the-variants.{Nothing, One, Two}
 use Rattle.effect.specs.All.{addressBy, readsBy, effectBy}
 use Rattle.run.specs.declared.step.Stepped.{Stepped}
 
--- what all steps of a run share: the code, which is lent and never written
+-- what all steps of a run share, lent and never written: the code and the constants
 pub record Fixed : Type 0 where
   pub code : List ℕ
+  pub constants : List ℕ
 
 -- the same by its parts
-abbrev pub fixedTo : List ℕ → Fixed
-fixedTo code = record { code = code }
+abbrev pub fixedTo : List ℕ → List ℕ → Fixed
+fixedTo code constants = record { code = code; constants = constants }
 
 -- what a step comes to: the next machine and data, or a number and an address, and then nothing has changed
 pub data Moved : Type 0 where
@@ -67,30 +68,31 @@ loaded (Value v) go = go v
 loaded (Loaded.Outside a) go = stop 5 a
 
 -- reads come before the write, in their order
-unfoldable pub performed : Reads → Plan → Machine → ℕ → List ℕ → Moved
-performed Nothing p m a d = finished p m a d 0 0
-performed (One w b) p m a d = loaded (loadOf d w b) (λ r. finished p m a d r 0)
-performed (Two w b c) p m a d = loaded (loadOf d w b) (λ r. loaded (loadOf d w c) (λ s. finished p m a d r s))
+unfoldable pub performed : List ℕ → Reads → Plan → Machine → ℕ → List ℕ → Moved
+performed constants Nothing p m a d = finished p m a d 0 0
+performed constants (One w b) p m a d = loaded (loadOf constants d w b) (λ r. finished p m a d r 0)
+performed constants (Two w b c) p m a d =
+    loaded (loadOf constants d w b) (λ r. loaded (loadOf constants d w c) (λ s. finished p m a d r s))
 
 -- where a plan's operand in memory is
 unfoldable pub operandAddress : Plan → Machine → ℕ
 operandAddress p m = addressBy (p .operation) m p (effectiveAddress m (p .address))
 
 -- the step of a plan
-unfoldable pub planned : Plan → Machine → List ℕ → Moved
-planned p m d = let a = operandAddress p m in performed (readsBy (p .operation) m p a) p m a d
+unfoldable pub planned : List ℕ → Plan → Machine → List ℕ → Moved
+planned constants p m d = let a = operandAddress p m in performed constants (readsBy (p .operation) m p a) p m a d
 
 -- 3: cut; 4: no such instruction
-unfoldable pub executed : Found → Machine → List ℕ → Moved
-executed (Found.Instruction i) m d = planned (planOf (m .eip) i) m d
-executed Found.Cut m d = stop 3 (m .eip)
-executed Found.Unknown m d = stop 4 (m .eip)
+unfoldable pub executed : Fixed → Found → Machine → List ℕ → Moved
+executed fixed (Found.Instruction i) m d = planned (fixed .constants) (planOf (m .eip) i) m d
+executed fixed Found.Cut m d = stop 3 (m .eip)
+executed fixed Found.Unknown m d = stop 4 (m .eip)
 
 -- 1: EIP is home; 2: EIP outside the code
 unfoldable pub stepOf : Fixed → Machine → List ℕ → Moved
 stepOf fixed m d =
     cond (eqb (m .eip) home) (stop 1 (m .eip))
-    (cond (inside (fixed .code) (m .eip)) (executed (decodeOf (fixed .code) (m .eip - codeBase)) m d) (stop 2 (m .eip)))
+    (cond (inside (fixed .code) (m .eip)) (executed fixed (decodeOf (fixed .code) (m .eip - codeBase)) m d) (stop 2 (m .eip)))
 
 -- the step is done
 unfoldable pub movedTo : Machine → Stepped

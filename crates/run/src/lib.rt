@@ -35,8 +35,14 @@ struct End {
 }
 
 // The number that a run is refused with, 0 if it is not.
-fn refusal(code_length: usize, area_length: usize, word: u32, budget: u64) -> u32
-    ensures { λ r. ⌜ r ≡ refusal «code_length» «area_length» word budget ⌝ }
+fn refusal(
+    code_length: usize,
+    area_length: usize,
+    constants_length: usize,
+    word: u32,
+    budget: u64,
+) -> u32
+    ensures { λ r. ⌜ r ≡ refusal «code_length» «area_length» «constants_length» word budget ⌝ }
 {
     if code_length == 0 {
         return 10;
@@ -46,6 +52,9 @@ fn refusal(code_length: usize, area_length: usize, word: u32, budget: u64) -> u3
     }
     if 65_536 < area_length {
         return 11;
+    }
+    if 65_536 < constants_length {
+        return 15;
     }
     if flags::passes(word) {
         if 1_000_000 < budget {
@@ -57,8 +66,8 @@ fn refusal(code_length: usize, area_length: usize, word: u32, budget: u64) -> u3
 }
 
 // So many steps at the most, until one stops. What a step takes from the code alone is kept by EIP modulo 64.
-fn steps(code: &[u8], m: Machine, area: &mut [u8], budget: u64) -> End
-    ensures { λ r. ⌜ Ends (runFrom (fixedTo (now (code .entry))) budget m (now (area .entry)) 0) r (now (area .exit)) ⌝ }
+fn steps(code: &[u8], constants: &[u8], m: Machine, area: &mut [u8], budget: u64) -> End
+    ensures { λ r. ⌜ Ends (runFrom (fixedTo (now (code .entry)) (now (constants .entry))) budget m (now (area .entry)) 0) r (now (area .exit)) ⌝ }
 {
     let none = stopping(0, 0);
     let mut kept = [none; 64];
@@ -72,7 +81,7 @@ fn steps(code: &[u8], m: Machine, area: &mut [u8], budget: u64) -> End
             kept[slot] = site_at(code, eip);
         }
         let here = kept[slot];
-        let s = take(here, at, area);
+        let s = take(here, at, constants, area);
         if s.stopped {
             return End {
                 machine: at,
@@ -118,12 +127,12 @@ fn close(m: Machine) -> Lent
 }
 
 // A run of a block.
-pub fn run(l: Lent, code: &[u8], area: &mut [u8], budget: u64) -> Ran
-    ensures { λ r. ⌜ Runs (runOf (fixedTo (now (code .entry))) l (now (area .entry)) budget) r (now (area .exit)) ⌝ }
+pub fn run(l: Lent, code: &[u8], constants: &[u8], area: &mut [u8], budget: u64) -> Ran
+    ensures { λ r. ⌜ Runs (runOf (fixedTo (now (code .entry)) (now (constants .entry))) l (now (area .entry)) budget) r (now (area .exit)) ⌝ }
 {
-    let n = refusal(code.len(), area.len(), l.word, budget);
+    let n = refusal(code.len(), area.len(), constants.len(), l.word, budget);
     if n == 0 {
-        let e = steps(code, open(l), area, budget);
+        let e = steps(code, constants, open(l), area, budget);
         let m = e.machine;
         return Ran {
             machine: close(m),

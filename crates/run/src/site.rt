@@ -91,12 +91,12 @@ pub fn is_for(s: Site, eip: u32) -> bool
 }
 
 // The step of a site.
-pub fn take(s: Site, m: Machine, area: &mut [u8]) -> Stepped
-    ensures { λ r. ⌜ Steps (siteStep s m (now (area .entry))) m (now (area .entry)) r (now (area .exit)) ⌝ }
+pub fn take(s: Site, m: Machine, constants: &[u8], area: &mut [u8]) -> Stepped
+    ensures { λ r. ⌜ Steps (siteStep (now (constants .entry)) s m (now (area .entry))) m (now (area .entry)) r (now (area .exit)) ⌝ }
 {
     if s.planned {
         let p = s.plan;
-        return follow(p, m, area);
+        return follow(p, m, constants, area);
     }
     stop(m, s.number, m.eip)
 }

@@ -1,4 +1,4 @@
-// One step: the tests for 1 to 7 in their order. Only this module sees the lent data: it loads, and then stores at most once, last.
+// One step: the tests for 1 to 7 in their order. Only this module sees the lent data and constants: it loads, and then stores at most once, last.
 use crate::site::site_at;
 use crate::site::take;
 use effect::all::address_by;
@@ -94,12 +94,12 @@ enum Fetched {
 }
 
 // The second read of two, where r is the first.
-fn fetch_second(area: &[u8], r: u32, w: Size, a: u32) -> Fetched
+fn fetch_second<'a>(constants: &'a [u8], area: &'a [u8], r: u32, w: Size, a: u32) -> Fetched
     ensures { λ f. ⌜
-        Fetches (λ p m e. loaded (loadOf (now (area .entry)) w a) (λ s. finished p m e (now (area .entry)) r s)) (now (area .entry)) f
+        Fetches (λ p m e. loaded (loadOf (now (constants .entry)) (now (area .entry)) w a) (λ s. finished p m e (now (area .entry)) r s)) (now (area .entry)) f
         ⌝ }
 {
-    match machine::memory::load(area, w, a) {
+    match machine::memory::load(constants, area, w, a) {
         Loaded::Value(s) => Fetched::Values {
             first: r,
             second: s,
@@ -109,15 +109,20 @@ fn fetch_second(area: &[u8], r: u32, w: Size, a: u32) -> Fetched
 }
 
 // The reads, in their order.
-fn fetch(reads: Reads, area: &[u8]) -> Fetched
-    ensures { λ f. ⌜ Fetches (λ p m a. performed reads p m a (now (area .entry))) (now (area .entry)) f ⌝ }
+fn fetch<'a>(reads: Reads, constants: &'a [u8], area: &'a [u8]) -> Fetched
+    ensures { λ f. ⌜ Fetches (λ p m a. performed (now (constants .entry)) reads p m a (now (area .entry))) (now (area .entry)) f ⌝ }
 {
     match reads {
         Reads::Nothing => Fetched::Values {
             first: 0,
             second: 0,
         },
-        Reads::One { size, address } => match machine::memory::load(area, size, address) {
+        Reads::One { size, address } => match machine::memory::load(
+            constants,
+            area,
+            size,
+            address,
+        ) {
             Loaded::Value(r) => Fetched::Values {
                 first: r,
                 second: 0,
@@ -128,36 +133,36 @@ fn fetch(reads: Reads, area: &[u8]) -> Fetched
             size,
             first,
             second: other,
-        } => match machine::memory::load(area, size, first) {
-            Loaded::Value(r) => fetch_second(area, r, size, other),
+        } => match machine::memory::load(constants, area, size, first) {
+            Loaded::Value(r) => fetch_second(constants, area, r, size, other),
             Loaded::Outside(b) => Fetched::Outside(b),
         },
     }
 }
 
 // The reads, in their order, and then the effect.
-fn perform(reads: Reads, p: Plan, m: Machine, a: u32, area: &mut [u8]) -> Stepped
-    ensures { λ r. ⌜ Steps (performed reads p m a (now (area .entry))) m (now (area .entry)) r (now (area .exit)) ⌝ }
+fn perform(reads: Reads, p: Plan, m: Machine, a: u32, constants: &[u8], area: &mut [u8]) -> Stepped
+    ensures { λ r. ⌜ Steps (performed (now (constants .entry)) reads p m a (now (area .entry))) m (now (area .entry)) r (now (area .exit)) ⌝ }
 {
-    match fetch(reads, area) {
+    match fetch(reads, constants, area) {
         Fetched::Values { first, second } => finish(p, m, a, area, first, second),
         Fetched::Outside(b) => stop(m, 5, b),
     }
 }
 
 // The step of a plan.
-pub fn follow(p: Plan, m: Machine, area: &mut [u8]) -> Stepped
-    ensures { λ r. ⌜ Steps (planned p m (now (area .entry))) m (now (area .entry)) r (now (area .exit)) ⌝ }
+pub fn follow(p: Plan, m: Machine, constants: &[u8], area: &mut [u8]) -> Stepped
+    ensures { λ r. ⌜ Steps (planned (now (constants .entry)) p m (now (area .entry))) m (now (area .entry)) r (now (area .exit)) ⌝ }
 {
     let op = p.operation;
     let address = p.address;
     let a = address_by(op, m, p, plan::effective_address(m, address));
-    perform(reads_by(op, m, p, a), p, m, a, area)
+    perform(reads_by(op, m, p, a), p, m, a, constants, area)
 }
 
 // One step.
-pub fn step(code: &[u8], m: Machine, area: &mut [u8]) -> Stepped
-    ensures { λ r. ⌜ Steps (stepOf (fixedTo (now (code .entry))) m (now (area .entry))) m (now (area .entry)) r (now (area .exit)) ⌝ }
+pub fn step(code: &[u8], constants: &[u8], m: Machine, area: &mut [u8]) -> Stepped
+    ensures { λ r. ⌜ Steps (stepOf (fixedTo (now (code .entry)) (now (constants .entry))) m (now (area .entry))) m (now (area .entry)) r (now (area .exit)) ⌝ }
 {
-    take(site_at(code, m.eip), m, area)
+    take(site_at(code, m.eip), m, constants, area)
 }

@@ -101,7 +101,7 @@ module _ {code : List ℕ} (ok : Acceptable code) (m : Machine) {i : ℕ} (start
       goes (λ direct. way-landed (way ((planOf (m .eip) x) .operation) m (planOf (m .eip) x) a r s (rw (place, found) at direct)))
   comes-safe (stops n low high) = halts (late n low)
 
-module _ {fixed : Fixed} (ok : Acceptable (fixed .code)) (m : Machine) (d : List ℕ) where
+module _ (fixed : Fixed) (ok : Acceptable (fixed .code)) (m : Machine) (d : List ℕ) where
   -- outside the code a step stops with 1 or 2
   outside-safe : inside (fixed .code) (m .eip) ≡ false → Safe (fixed .code) m (stepOf fixed m d)
   unfolding stepOf
@@ -116,6 +116,6 @@ module _ {fixed : Fixed} (ok : Acceptable (fixed .code)) (m : Machine) (d : List
       let sized = ok .sized in
       let place : m .eip - codeBase ≡ s = omega arith in
       rw (in-code fixed m d (λ e. omega arith) (omega arith) (omega arith), place, found)
-      (comes-safe ok m start at x found (planned-comes (planOf (m .eip) x) m d))
+      (comes-safe ok m start at x found (planned-comes (fixed .constants) (planOf (m .eip) x) m d))
   step-safe (Landed.at-home e) = rw (at-home fixed m d e) (halts (early 1 (omega arith)))
   step-safe (outside e) = outside-safe e

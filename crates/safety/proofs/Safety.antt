@@ -34,13 +34,13 @@ onward (goes direct) go end rest last = rest _ _ refl direct
 onward (halts {n} {a} readable) go end rest last = last n a readable
 
 -- a guided run of acceptable code from a landed address gives neither 3 nor 4
-guided-readable : {fixed : Fixed} → Acceptable (fixed .code) → (b k : ℕ) (m : Machine) (d : List ℕ) → Landed (fixed .code) (m .eip) → Guided fixed b m d
+guided-readable : (fixed : Fixed) → Acceptable (fixed .code) → (b k : ℕ) (m : Machine) (d : List ℕ) → Landed (fixed .code) (m .eip) → Guided fixed b m d
     → Readable ((runFrom fixed b m d k) .number)
 unfolding runFrom Guided
-guided-readable ok zero k m d landed guided = early 0 (omega arith)
-guided-readable {fixed} ok (suc b) k m d landed guided =
-    onward (step-safe ok m d landed) _ _
-    (λ m′ d′ e direct. guided-readable ok b (suc k) m′ d′ (decided (indirectAt (fixed .code) m) (guided m′ d′ e .0) direct) (guided m′ d′ e .1))
+guided-readable fixed ok zero k m d landed guided = early 0 (omega arith)
+guided-readable fixed ok (suc b) k m d landed guided =
+    onward (step-safe fixed ok m d landed) _ _
+    (λ m′ d′ e direct. guided-readable fixed ok b (suc k) m′ d′ (decided (indirectAt (fixed .code) m) (guided m′ d′ e .0) direct) (guided m′ d′ e .1))
     (λ n a readable. readable)
 
 -- a run is refused with neither
@@ -49,14 +49,15 @@ unfolding refusal
 refusal-readable fixed d word budget =
     let by-budget = chosen Readable (ltb 1_000_000 budget) (late 13 (omega arith)) (early 0 (omega arith)) in
     let by-word = chosen Readable (not (passes word)) (late 12 (omega arith)) by-budget in
-    let by-data = chosen Readable (ltb 65_536 (length d)) (late 11 (omega arith)) by-word in
+    let by-constants = chosen Readable (ltb 65_536 (length (fixed .constants))) (late 15 (omega arith)) by-word in
+    let by-data = chosen Readable (ltb 65_536 (length d)) (late 11 (omega arith)) by-constants in
     chosen Readable (eqb (length (fixed .code)) 0 || ltb 65_536 (length (fixed .code))) (late 10 (omega arith)) by-data
 
 module _ (fixed : Fixed) {marks after : List ℕ} {count : ℕ} (judged : Judged (fixed .code) marks 0 count after) where
   -- from a landed address, no number of steps of accepted code gives 3 or 4
   pub never-unreadable : (m : Machine) (d : List ℕ) → Landed (fixed .code) (m .eip) → (b k : ℕ) → Guided fixed b m d
       → Readable ((runFrom fixed b m d k) .number)
-  never-unreadable m d landed b k guided = guided-readable (accepted-acceptable judged) b k m d landed guided
+  never-unreadable m d landed b k guided = guided-readable fixed (accepted-acceptable judged) b k m d landed guided
 
   module _ (l : Lent) (d : List ℕ) (budget : ℕ) (guided : Guided fixed budget (opened l) d) where
     -- no run of accepted code that starts at a start gives 3 or 4

@@ -29,12 +29,13 @@ steps-within fixed zero m d k = omega arith
 steps-within fixed (suc b) m d k =
     moved-within (stepOf fixed m d) (k + suc b) _ _ (λ m′ d′. omega (arith, steps-within fixed b m′ d′ (suc k))) (λ n a. omega arith)
 
--- of the four refusals the last leaves the budget allowed
-allowed : (a b w : Bool) (budget : ℕ) → _≡_ {A = ℕ} (cond a 10 (cond b 11 (cond w 12 (cond (ltb 1_000_000 budget) 13 0)))) 0 → budget ≤ 1_000_000
-allowed true b w budget h = omega arith
-allowed false true w budget h = omega arith
-allowed false false true budget h = omega arith
-allowed false false false budget h = by (ltb 1_000_000 budget) refl h
+-- of the five refusals the last leaves the budget allowed
+allowed : (a b c w : Bool) (budget : ℕ) → _≡_ {A = ℕ} (cond a 10 (cond b 11 (cond c 15 (cond w 12 (cond (ltb 1_000_000 budget) 13 0))))) 0 → budget ≤ 1_000_000
+allowed true b c w budget h = omega arith
+allowed false true c w budget h = omega arith
+allowed false false true w budget h = omega arith
+allowed false false false true budget h = omega arith
+allowed false false false false budget h = by (ltb 1_000_000 budget) refl h
   where
     by : (t : Bool) → ltb 1_000_000 budget ≡ t → _≡_ {A = ℕ} (cond t 13 0) 0 → budget ≤ 1_000_000
     by true e z = omega arith
@@ -44,7 +45,7 @@ allowed false false false budget h = by (ltb 1_000_000 budget) refl h
 budget-within : (fixed : Fixed) (d : List ℕ) (word budget : ℕ) → refusalOf fixed d word budget ≡ 0 → budget ≤ 1_000_000
 unfolding refusal
 budget-within fixed d word budget h =
-    allowed (eqb (length (fixed .code)) 0 || ltb 65_536 (length (fixed .code))) (ltb 65_536 (length d)) (not (passes word)) budget h
+    allowed (eqb (length (fixed .code)) 0 || ltb 65_536 (length (fixed .code))) (ltb 65_536 (length d)) (ltb 65_536 (length (fixed .constants))) (not (passes word)) budget h
 
 -- a refused run takes no steps
 outcome-fits : (b : Bool) (e : Ended) (l : Lent) (d : List ℕ) (n : ℕ) → (b ≡ true → e .steps < 2 ^ 32)

@@ -47,7 +47,7 @@ part-listed zero k l h = refl
 part-listed (suc n) k l h =
     rw (drop-cons l k 0 (omega arith)) (ap (λ (r : List ℕ). getD l k 0 ∷ r) (part-listed n (suc k) l (omega arith)))
 
--- 10 to 13 keep the ten words of the machine: 0 steps, address 0, and the data as handed in
+-- 10 to 13 and 15 keep the ten words of the machine: 0 steps, address 0, and the data as handed in
 pub refused-keeps : (state : List ℕ) (fixed : Fixed) (d : List ℕ) (budget : ℕ) → length state ≡ 12
     → (refusalOf fixed d (getD state 9 0) budget ≡ 0 → ⊥)
     → callOf state fixed d budget

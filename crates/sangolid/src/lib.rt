@@ -57,15 +57,21 @@ fn hand_back(state: &mut [u32], ran: Ran)
     put_four(state, 8, m.eip, m.word, ran.steps as u32, ran.address);
 }
 
-// Runs the block from the state, over the lent data, and puts what comes back into the state.
+// Runs the block from the state, over the lent constants and data, and puts what comes back into the state.
 #[no_mangle]
-pub extern "C" fn sangolid_run(state: &mut [u32], code: &[u8], area: &mut [u8], budget: u64) -> u32
-    ensures { λ r. ⌜ Calls (callOf (now (state .entry)) (fixedTo (now (code .entry))) (now (area .entry)) budget) r (now (state .exit)) (now (area .exit)) ⌝ }
+pub extern "C" fn sangolid_run(
+    state: &mut [u32],
+    code: &[u8],
+    constants: &[u8],
+    area: &mut [u8],
+    budget: u64,
+) -> u32
+    ensures { λ r. ⌜ Calls (callOf (now (state .entry)) (fixedTo (now (code .entry)) (now (constants .entry))) (now (area .entry)) budget) r (now (state .exit)) (now (area .exit)) ⌝ }
 {
     if state.len() != 12 {
         return 90;
     }
-    let ran = run::run(lent(state), code, area, budget);
+    let ran = run::run(lent(state), code, constants, area, budget);
     hand_back(state, ran);
     ran.number
 }

@@ -35,16 +35,16 @@ loaded-settled us (Value v) go go′ h = h v refl
 loaded-settled us (Loaded.Outside b) go go′ h = stops
 
 -- the reads, and then the effect for what the first gives
-module _ (p : Plan) (m m′ : Machine) (a : ℕ) (d : List ℕ) (us : List Flag) where
-  performed-settled : (reads : Reads) → ((r s : ℕ) → r ≡ firstRead reads d → Settled us (finished p m a d r s) (finished p m′ a d r s))
-      → Settled us (performed reads p m a d) (performed reads p m′ a d)
+module _ (constants : List ℕ) (p : Plan) (m m′ : Machine) (a : ℕ) (d : List ℕ) (us : List Flag) where
+  performed-settled : (reads : Reads) → ((r s : ℕ) → r ≡ firstRead constants reads d → Settled us (finished p m a d r s) (finished p m′ a d r s))
+      → Settled us (performed constants reads p m a d) (performed constants reads p m′ a d)
   unfolding firstRead performed
   performed-settled Nothing h = h 0 0 refl
-  performed-settled (One w b) h = loaded-settled us (loadOf d w b) _ _ (λ r e. h r 0 e)
-  performed-settled (Two w b c) h = loaded-settled us (loadOf d w b) _ _ (λ r e. loaded-settled us (loadOf d w c) _ _ (λ s e′. h r s e))
+  performed-settled (One w b) h = loaded-settled us (loadOf constants d w b) _ _ (λ r e. h r 0 e)
+  performed-settled (Two w b c) h = loaded-settled us (loadOf constants d w b) _ _ (λ r e. loaded-settled us (loadOf constants d w c) _ _ (λ s e′. h r s e))
 
 -- the parts of the step of a plan whose operation computes
-module _ (p : Plan) (m : Machine) (d : List ℕ) (op : Arithmetic) (e : p .operation ≡ Operation.Arithmetic op) where
+module _ (constants : List ℕ) (p : Plan) (m : Machine) (d : List ℕ) (op : Arithmetic) (e : p .operation ≡ Operation.Arithmetic op) where
   -- where its operand in memory is
   abbrev at : ℕ
   at = arithmeticAddress op m p (effectiveAddress m (p .address))
@@ -57,11 +57,11 @@ module _ (p : Plan) (m : Machine) (d : List ℕ) (op : Arithmetic) (e : p .opera
   unfolding readsBy
   reads-are a = ap (λ o. readsBy o m p a) e
 
-  undefined-are : planUndefined p m d ≡ arithmeticUndefined op m p (firstRead (arithmeticReads p at) d)
+  undefined-are : planUndefined constants p m d ≡ arithmeticUndefined op m p (firstRead constants (arithmeticReads p at) d)
   unfolding undefinedBy planUndefined
-  undefined-are = rw (address-is, reads-are at) (ap (λ o. undefinedBy o m p (firstRead (arithmeticReads p at) d)) e)
+  undefined-are = rw (address-is, reads-are at) (ap (λ o. undefinedBy o m p (firstRead constants (arithmeticReads p at) d)) e)
 
-  planned-is : planned p m d ≡ performed (arithmeticReads p at) p m at d
+  planned-is : planned constants p m d ≡ performed constants (arithmeticReads p at) p m at d
   unfolding planned
   planned-is = rw (address-is, reads-are at)
 
@@ -70,10 +70,10 @@ module _ (p : Plan) (m : Machine) (d : List ℕ) (op : Arithmetic) (e : p .opera
   finished-is a r s = ap (λ o. committed ((effectBy o m p a r s) .outcome) (effectBy o m p a r s) m d) e
 
 -- an operation that leaves no flag undefined
-none-left : (p : Plan) (m : Machine) (d : List ℕ) (o : Operation) → p .operation ≡ o → ((r : ℕ) → undefinedBy o m p r ≡ []) → planUndefined p m d ≡ []
+none-left : (constants : List ℕ) (p : Plan) (m : Machine) (d : List ℕ) (o : Operation) → p .operation ≡ o → ((r : ℕ) → undefinedBy o m p r ≡ []) → planUndefined constants p m d ≡ []
 unfolding planUndefined
-none-left p m d o e none =
-    let r = firstRead (readsBy (p .operation) m p (operandAddress p m)) d in ap (λ x. undefinedBy x m p r) e ∙ none r
+none-left constants p m d o e none =
+    let r = firstRead constants (readsBy (p .operation) m p (operandAddress p m)) d in ap (λ x. undefinedBy x m p r) e ∙ none r
 
 -- where no flag is left undefined
 none-settled : (v : Moved) → Settled [] v v
@@ -81,42 +81,42 @@ unfolding without
 none-settled (next m d) = moves refl
 none-settled (stop n a) = stops
 
-module _ (p : Plan) (m : Machine) (g : Flags) (d : List ℕ) where
+module _ (constants : List ℕ) (p : Plan) (m : Machine) (g : Flags) (d : List ℕ) where
   -- an operation that computes
-  computed : (op : Arithmetic) → p .operation ≡ Operation.Arithmetic op → DifferOnlyIn (planUndefined p m d) (m .flags) g
-      → Settled (planUndefined p m d) (planned p m d) (planned p (withFlags m g) d)
+  computed : (op : Arithmetic) → p .operation ≡ Operation.Arithmetic op → DifferOnlyIn (planUndefined constants p m d) (m .flags) g
+      → Settled (planUndefined constants p m d) (planned constants p m d) (planned constants p (withFlags m g) d)
   computed op e h =
       let a = arithmeticAddress op m p (effectiveAddress m (p .address)) in
-      let us = arithmeticUndefined op m p (firstRead (arithmeticReads p a) d) in
-      let known : DifferOnlyIn us (m .flags) g = rw (undefined-are p m d op e) at h in
-      rw (undefined-are p m d op e, planned-is p (withFlags m g) d op e, planned-is p m d op e, address-same m g (p .address), operand-same op m g p (effectiveAddress m (p .address)))
-      (performed-settled p m (withFlags m g) a d us (arithmeticReads p a)
-      (λ r s first. rw (finished-is p (withFlags m g) d op e a r s, finished-is p m d op e a r s, ← first) (comes-settled m g p a d op r (rw first known))))
+      let us = arithmeticUndefined op m p (firstRead constants (arithmeticReads p a) d) in
+      let known : DifferOnlyIn us (m .flags) g = rw (undefined-are constants p m d op e) at h in
+      rw (undefined-are constants p m d op e, planned-is constants p (withFlags m g) d op e, planned-is constants p m d op e, address-same m g (p .address), operand-same op m g p (effectiveAddress m (p .address)))
+      (performed-settled constants p m (withFlags m g) a d us (arithmeticReads p a)
+      (λ r s first. rw (finished-is constants p (withFlags m g) d op e a r s, finished-is constants p m d op e a r s, ← first) (comes-settled m g p a d op r (rw first known))))
 
   -- one that leaves no flag undefined
-  unflagged : planUndefined p m d ≡ [] → DifferOnlyIn (planUndefined p m d) (m .flags) g
-      → Settled (planUndefined p m d) (planned p m d) (planned p (withFlags m g) d)
+  unflagged : planUndefined constants p m d ≡ [] → DifferOnlyIn (planUndefined constants p m d) (m .flags) g
+      → Settled (planUndefined constants p m d) (planned constants p m d) (planned constants p (withFlags m g) d)
   unfolding withFlags without DifferOnlyIn
-  unflagged none h = let same : m .flags ≡ g = rw none at h in rw (none, ← same) (none-settled (planned p m d))
+  unflagged none h = let same : m .flags ≡ g = rw none at h in rw (none, ← same) (none-settled (planned constants p m d))
 
   -- any operation
-  planned-settled : (o : Operation) → p .operation ≡ o → DifferOnlyIn (planUndefined p m d) (m .flags) g
-      → Settled (planUndefined p m d) (planned p m d) (planned p (withFlags m g) d)
+  planned-settled : (o : Operation) → p .operation ≡ o → DifferOnlyIn (planUndefined constants p m d) (m .flags) g
+      → Settled (planUndefined constants p m d) (planned constants p m d) (planned constants p (withFlags m g) d)
   unfolding undefinedBy
   planned-settled (Operation.Arithmetic op) e h = computed op e h
-  planned-settled (Operation.Move op) e h = unflagged (none-left p m d _ e (λ r. refl)) h
-  planned-settled (Operation.Flagging op) e h = unflagged (none-left p m d _ e (λ r. refl)) h
-  planned-settled (Operation.Stack op) e h = unflagged (none-left p m d _ e (λ r. refl)) h
-  planned-settled (Operation.Branch op) e h = unflagged (none-left p m d _ e (λ r. refl)) h
-  planned-settled (Operation.Strings op) e h = unflagged (none-left p m d _ e (λ r. refl)) h
+  planned-settled (Operation.Move op) e h = unflagged (none-left constants p m d _ e (λ r. refl)) h
+  planned-settled (Operation.Flagging op) e h = unflagged (none-left constants p m d _ e (λ r. refl)) h
+  planned-settled (Operation.Stack op) e h = unflagged (none-left constants p m d _ e (λ r. refl)) h
+  planned-settled (Operation.Branch op) e h = unflagged (none-left constants p m d _ e (λ r. refl)) h
+  planned-settled (Operation.Strings op) e h = unflagged (none-left constants p m d _ e (λ r. refl)) h
 
 -- what is found at EIP
-executed-settled : (f : Found) (m : Machine) (g : Flags) (d : List ℕ) → DifferOnlyIn (foundUndefined f m d) (m .flags) g
-    → Settled (foundUndefined f m d) (executed f m d) (executed f (withFlags m g) d)
+executed-settled : (fixed : Fixed) (f : Found) (m : Machine) (g : Flags) (d : List ℕ) → DifferOnlyIn (foundUndefined fixed f m d) (m .flags) g
+    → Settled (foundUndefined fixed f m d) (executed fixed f m d) (executed fixed f (withFlags m g) d)
 unfolding withFlags foundUndefined executed
-executed-settled (Found.Instruction i) m g d h = planned-settled (planOf (m .eip) i) m g d _ refl h
-executed-settled Found.Cut m g d h = stops
-executed-settled Found.Unknown m g d h = stops
+executed-settled fixed (Found.Instruction i) m g d h = planned-settled (fixed .constants) (planOf (m .eip) i) m g d _ refl h
+executed-settled fixed Found.Cut m g d h = stops
+executed-settled fixed Found.Unknown m g d h = stops
 
 -- either of two ways
 either : (us : List Flag) (b : Bool) {x y x′ y′ : Moved} → Settled us x x′ → Settled us y y′ → Settled us (cond b x y) (cond b x′ y′)
@@ -136,7 +136,7 @@ step-settled fixed m m′ d h =
     let us = stepUndefined fixed m d in
     rw (with-others m m′ (h .regs) (h .eip))
     (either us (eqb (m .eip) home) stops
-    (either us (inside (fixed .code) (m .eip)) (executed-settled (decodeOf (fixed .code) (m .eip - codeBase)) m (m′ .flags) d (h .flags)) stops))
+    (either us (inside (fixed .code) (m .eip)) (executed-settled fixed (decodeOf (fixed .code) (m .eip - codeBase)) m (m′ .flags) d (h .flags)) stops))
 
 -- it comes to the same, flags and all
 pub step-regardless : (fixed : Fixed) (m m′ : Machine) (d : List ℕ) → Alike (stepUndefined fixed m d) m m′

@@ -63,24 +63,25 @@ given (Value v) = v
 given (Loaded.Outside a) = 0
 
 -- what is read first
-unfoldable pub firstRead : Reads → List ℕ → ℕ
-firstRead Nothing d = 0
-firstRead (One w a) d = given (loadOf d w a)
-firstRead (Two w a b) d = given (loadOf d w a)
+unfoldable pub firstRead : List ℕ → Reads → List ℕ → ℕ
+firstRead constants Nothing d = 0
+firstRead constants (One w a) d = given (loadOf constants d w a)
+firstRead constants (Two w a b) d = given (loadOf constants d w a)
 
 -- after the step of a plan
-unfoldable pub planUndefined : Plan → Machine → List ℕ → List Flag
-planUndefined p m d = undefinedBy (p .operation) m p (firstRead (readsBy (p .operation) m p (operandAddress p m)) d)
+unfoldable pub planUndefined : List ℕ → Plan → Machine → List ℕ → List Flag
+planUndefined constants p m d =
+    undefinedBy (p .operation) m p (firstRead constants (readsBy (p .operation) m p (operandAddress p m)) d)
 
 -- after the step of what is found at EIP
-unfoldable pub foundUndefined : Found → Machine → List ℕ → List Flag
-foundUndefined (Found.Instruction i) m d = planUndefined (planOf (m .eip) i) m d
-foundUndefined Found.Cut m d = []
-foundUndefined Found.Unknown m d = []
+unfoldable pub foundUndefined : Fixed → Found → Machine → List ℕ → List Flag
+foundUndefined fixed (Found.Instruction i) m d = planUndefined (fixed .constants) (planOf (m .eip) i) m d
+foundUndefined fixed Found.Cut m d = []
+foundUndefined fixed Found.Unknown m d = []
 
 -- after a step
 unfoldable pub stepUndefined : Fixed → Machine → List ℕ → List Flag
-stepUndefined fixed m d = foundUndefined (decodeOf (fixed .code) (m .eip - codeBase)) m d
+stepUndefined fixed m d = foundUndefined fixed (decodeOf (fixed .code) (m .eip - codeBase)) m d
 
 -- two machines differ only in flags of a list
 pub record Alike (us : List Flag) (m m′ : Machine) : Type 0 where

@@ -1,6 +1,6 @@
 -- From what the calls give to the finding of a case. Assumes nothing.
 use mathlib.Core.Path.{_≡_, refl, _∙_}
-use mathlib.Core.Bool.{true}
+use mathlib.Core.Bool.{true, false}
 use mathlib.Core.List.{List, [], _∷_, _++_}
 use Prim.Native.Nat.{ℕ, _%_, _^_, _≤_}
 use native.Mathlib.Omega.{arith}
@@ -14,17 +14,24 @@ use Rattle.text.proofs.Tests.{both-hold}
 use Rattle.vector_text.specs.Hex.{valueOf, bytesOf, padded}
 use Rattle.vector_text.specs.Fields.{fieldOf}
 use Rattle.vector_run.specs.declared.judging.Finding.{Finding}
+use Rattle.vector_run.specs.declared.judging.Finding.the-variants.{Malformed}
 use Rattle.vector_run.specs.declared.judging.Kind.{Kind}
-use Rattle.vector_run.specs.Cases.{numberOf, stateBefore, areaFits, padTo, codeOf, areaOf}
-use Rattle.vector_run.specs.Findings.{Told, firstOther, numbersFrom, resultsOf, ranTold, answerTold, runFinding, CheckFinds, checked, HexFinds, unhexed, KindFinds, SizedFinds, sized}
+use Rattle.vector_run.specs.Cases.{numberOf, stateBefore, areaFits, padTo, codeOf, areaOf, constantsOf}
+use Rattle.vector_run.specs.Findings.{Told, firstOther, numbersFrom, resultsOf, ranTold, answerTold, lentFinding, runFinding, CheckFinds, checked, HexFinds, unhexed, KindFinds, SizedFinds, sized}
+
+-- an area filled from a field
+pub filled : (line : List ℕ) (k n : ℕ) {text after : List ℕ} → text ≡ fieldOf line k → after ≡ padded n (bytesOf text) → after ≡ padTo line k n
+unfolding padTo
+filled line k n is fills = rw (← is) fills
 
 -- what the run's call gives, compared, is its finding
-pub run-found : (line code d : List ℕ) {state told before after : List ℕ} {n budget : ℕ} {r : Finding} → before ≡ stateBefore line
-    → budget ≡ valueOf (fieldOf line 12) % 2 ^ 64 → Calls (callOf before (fixedTo code) d budget) n state after → told ≡ resultsOf n state
-    → r ≡ firstOther line (numbersFrom 17 told ++ (Told.theArea 31 after ∷ [])) → r ≡ runFinding line code d
-unfolding runFinding ranTold numberOf
-run-found line code d start steps calls results found =
-    found ∙ rw (results, calls .is, calls .state-left, calls .area-left, start, steps)
+pub lent-found : (line code d : List ℕ) (size : ℕ) {text constants state told before after : List ℕ} {n budget : ℕ} {r : Finding}
+    → text ≡ fieldOf line 33 → constants ≡ padded size (bytesOf text) → before ≡ stateBefore line → budget ≡ valueOf (fieldOf line 12) % 2 ^ 64
+    → Calls (callOf before (fixedTo code constants) d budget) n state after → told ≡ resultsOf n state
+    → r ≡ firstOther line (numbersFrom 17 told ++ (Told.theArea 31 after ∷ [])) → r ≡ lentFinding line code (padTo line 33 size) d
+unfolding lentFinding ranTold numberOf
+lent-found line code d size is fills start steps calls results found =
+    found ∙ rw (results, calls .is, calls .state-left, calls .area-left, start, steps, filled line 33 size is fills)
 
 -- what the check's call gives, compared, is its finding
 pub check-found : {line code marks after answer : List ℕ} {n : ℕ} {r : Finding} → Checks code marks (0 ∷ []) n after answer
@@ -37,11 +44,6 @@ pub hex-found : {line text code after answer : List ℕ} {n : ℕ} {r : Finding}
     → r ≡ firstOther line (answerTold n (getD answer 0 0) after) → HexFinds line text code r
 hex-found (unfit-answer wrong) found = absurd (wrong refl)
 hex-found (was-unhexed long outcome) found = rw found (unhexed (was-unhexed long outcome))
-
--- an area filled from a field
-pub filled : (line : List ℕ) (k n : ℕ) {text after : List ℕ} → text ≡ fieldOf line k → after ≡ padded n (bytesOf text) → after ≡ padTo line k n
-unfolding padTo
-filled line k n is fills = rw (← is) fills
 
 module _ {kind : Kind} (line : List ℕ) {code d code′ d′ : List ℕ} {r : Finding} (code-is : code ≡ code′) (d-is : d ≡ d′) where
   -- the finding of a run
@@ -69,6 +71,18 @@ room-part : (line room : List ℕ) (k n : ℕ) → areaFits line k ≡ true → 
     → length (take n room) ≡ numberOf line k
 unfolding numberOf
 room-part line room k n fits is long = length-take-le n room (omega (arith, fits-room line k fits)) ∙ is
+
+module _ (line code d : List ℕ) {r : Finding} where
+  -- a run whose constants don't fit
+  pub run-unfit : areaFits line 32 ≡ false → r ≡ Malformed → r ≡ runFinding line code d
+  unfolding runFinding
+  run-unfit no-room is = is ∙ rw no-room
+
+  -- a run over the constants of its line
+  pub run-found : (room : List ℕ) {n : ℕ} → areaFits line 32 ≡ true → n ≡ valueOf (fieldOf line 32) % 2 ^ 64 → 65540 ≡ length room
+      → r ≡ lentFinding line code (padTo line 33 (length (take n room))) d → r ≡ runFinding line code d
+  unfolding runFinding constantsOf
+  run-found room {n} fits is long found = found ∙ rw (fits, room-part line room 32 n fits is long)
 
 -- a case over the areas of its line
 pub sized-found : {kind : Kind} {line : List ℕ} (code d : List ℕ) {m n : ℕ} {r : Finding} → areaFits line 13 ≡ true → areaFits line 15 ≡ true

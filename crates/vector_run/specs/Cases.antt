@@ -1,4 +1,4 @@
--- What a case's line says: its kind, the state, code or text and area that it is called with, and the budget. Assumes nothing.
+-- What a case's line says: its kind, the state, code or text, constants and area that it is called with, and the budget. Assumes nothing.
 use mathlib.Core.Bool.{Bool, _&&_}
 use mathlib.Core.List.{List, [], _∷_, _++_}
 use Prim.Native.Nat.{ℕ, zero, suc, _+_, _%_, _^_}
@@ -21,7 +21,7 @@ wordsFrom (suc n) k line = valueOf (fieldOf line k) % 2 ^ 32 ∷ wordsFrom n (su
 unfoldable pub stateBefore : List ℕ → List ℕ
 stateBefore line = wordsFrom 10 2 line ++ (0 ∷ 0 ∷ [])
 
--- some bytes more than code, data or marks may have
+-- some bytes more than code, constants, data or marks may have
 abbrev pub most : ℕ
 most = 65540
 
@@ -41,14 +41,18 @@ codeOf line = padTo line 14 (numberOf line 13)
 unfoldable pub areaOf : List ℕ → List ℕ
 areaOf line = padTo line 16 (numberOf line 15)
 
+-- a run's constants, of the size in field 32
+unfoldable pub constantsOf : List ℕ → List ℕ
+constantsOf line = padTo line 33 (numberOf line 32)
+
 -- the form of a run's line
 unfoldable pub isRun : List ℕ → Bool
-isRun line = formed (fields line) (ascii "rnnnnnnnnnnwnbnbnwnnnnnnnnnnnnb")
+isRun line = formed (fields line) (ascii "rnnnnnnnnnnwnbnbnwnnnnnnnnnnnnbnb")
 
 -- the form of a check's line
 unfoldable pub isCheck : List ℕ → Bool
-isCheck line = formed (fields line) (ascii "c-----------nbnbn-n-----------b")
+isCheck line = formed (fields line) (ascii "c-----------nbnbn-n-----------b--")
 
 -- the form of a hex file's line
 unfoldable pub isHex : List ℕ → Bool
-isHex line = formed (fields line) (ascii "h-----------nbnbn-n-----------b")
+isHex line = formed (fields line) (ascii "h-----------nbnbn-n-----------b--")

@@ -12,7 +12,7 @@ use Rattle.vector_text.specs.Fields.{fieldOf}
 use Rattle.vector_run.specs.declared.judging.Finding.{Finding}
 use Rattle.vector_run.specs.declared.judging.Kind.{Kind}
 use Rattle.vector_run.specs.declared.judging.Finding.the-variants.{Same, DiffersIn, Malformed}
-use Rattle.vector_run.specs.Cases.{numberOf, stateBefore, areaFits, codeOf, areaOf, isRun, isCheck, isHex}
+use Rattle.vector_run.specs.Cases.{numberOf, stateBefore, areaFits, codeOf, areaOf, constantsOf, isRun, isCheck, isHex}
 
 -- what came out, for a field of the line: a number, or an area
 pub data Told : Type 0 where
@@ -56,9 +56,13 @@ ranTold call = numbersFrom 17 (resultsOf (call .number) (call .state)) ++ (Told.
 unfoldable pub answerTold : ℕ → ℕ → List ℕ → List Told
 answerTold number value area = Told.theNumber 17 number ∷ Told.theNumber 19 value ∷ Told.theArea 31 area ∷ []
 
--- the finding of a run over code and data
+-- the finding of a run over code, constants and data
+unfoldable pub lentFinding : List ℕ → List ℕ → List ℕ → List ℕ → Finding
+lentFinding line code constants d = firstOther line (ranTold (callOf (stateBefore line) (fixedTo code constants) d (numberOf line 12)))
+
+-- the finding of a run over code, data and its line's constants; where these don't fit it is malformed
 unfoldable pub runFinding : List ℕ → List ℕ → List ℕ → Finding
-runFinding line code d = firstOther line (ranTold (callOf (stateBefore line) (fixedTo code) d (numberOf line 12)))
+runFinding line code d = cond (areaFits line 32) (lentFinding line code (constantsOf line) d) Malformed
 
 -- the finding of a check over code and marks
 pub data CheckFinds (line code marks : List ℕ) : Finding → Type 0 where

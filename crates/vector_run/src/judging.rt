@@ -14,7 +14,7 @@ ghost use mathlib.Core.List.{[], _∷_, _++_};
 ghost use Prim.Native.Nat.{_<_};
 ghost use lib.ListN.{length};
 ghost use Rattle.vector_run.specs.Cases.{stateBefore, areaFits, padTo};
-ghost use Rattle.vector_run.specs.Findings.{Told, firstOther, numbersFrom, resultsOf, answerTold, runFinding, CheckFinds, HexFinds, KindFinds, SizedFinds, Finds};
+ghost use Rattle.vector_run.specs.Findings.{Told, firstOther, numbersFrom, resultsOf, answerTold, lentFinding, runFinding, CheckFinds, HexFinds, KindFinds, SizedFinds, Finds};
 
 // What is found of a case: it comes out as its line says, or differs first in the field of a number, or its line is malformed.
 pub enum Finding {
@@ -115,13 +115,26 @@ fn compare_answer(line: &[u8], number: u32, value: u32, area: &[u8]) -> Finding
     compare_area(line, area)
 }
 
-// Runs the block, over areas as long as the line says, and compares.
+// Fills constants as long as the line says, runs the block over areas as long as it says, and compares.
+fn judge_lent(line: &[u8], code: &[u8], constants: &mut [u8], area: &mut [u8]) -> Finding
+    ensures { λ r. ⌜ r ≡ lentFinding (now (line .entry)) (now (code .entry)) (padTo (now (line .entry)) 33 (length (now (constants .entry)))) (now (area .entry)) ⌝ }
+{
+    fill(constants, field(line, 33));
+    let mut state = state_before(line);
+    let number = sangolid_run(&mut state, code, constants, area, number_64(line, 12));
+    compare_run(line, results(number, state), area)
+}
+
+// Judges a run, over constants as long as the line says.
 fn judge_run(line: &[u8], code: &[u8], area: &mut [u8]) -> Finding
     ensures { λ r. ⌜ r ≡ runFinding (now (line .entry)) (now (code .entry)) (now (area .entry)) ⌝ }
 {
-    let mut state = state_before(line);
-    let number = sangolid_run(&mut state, code, area, number_64(line, 12));
-    compare_run(line, results(number, state), area)
+    if !area_fits(line, 32) {
+        return Finding::Malformed;
+    }
+    let mut constants = room();
+    let size = number_64(line, 32) as usize;
+    judge_lent(line, code, &mut constants[..size], area)
 }
 
 // Checks the block, over areas as long as the line says, and compares.
@@ -164,7 +177,7 @@ fn room() -> [u8; 65540]
 
 // Whether there is room for an area whose size is in the field of a number, and the bytes in the next field fit it.
 fn area_fits(line: &[u8], number: usize) -> bool
-    requires { ⌜ number < 31 ⌝ }
+    requires { ⌜ number < 33 ⌝ }
     ensures { λ r. ⌜ r ≡ areaFits (now (line .entry)) number ⌝ }
 {
     let size = number_64(line, number);
@@ -195,13 +208,13 @@ fn judge_sized(line: &[u8], kind: Kind) -> Finding
 pub fn judge(line: &[u8]) -> Finding
     ensures { λ r. ⌜ Finds (now (line .entry)) r ⌝ }
 {
-    if has_form(line, b"rnnnnnnnnnnwnbnbnwnnnnnnnnnnnnb") {
+    if has_form(line, b"rnnnnnnnnnnwnbnbnwnnnnnnnnnnnnbnb") {
         return judge_sized(line, Kind::Run);
     }
-    if has_form(line, b"c-----------nbnbn-n-----------b") {
+    if has_form(line, b"c-----------nbnbn-n-----------b--") {
         return judge_sized(line, Kind::Check);
     }
-    if has_form(line, b"h-----------nbnbn-n-----------b") {
+    if has_form(line, b"h-----------nbnbn-n-----------b--") {
         return judge_sized(line, Kind::Hex);
     }
     Finding::Malformed

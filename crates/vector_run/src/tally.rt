@@ -22,7 +22,7 @@ fn say(n: u64, bytes: &[u8]) {
 fn say_name(number: usize) {
     let names = b"kind\teax\tecx\tedx\tebx\tesp\tebp\tesi\tedi\teip\tflags\tbudget\
         \tcode_len\tcode\tarea_len\tarea\tnumber\tsteps\taddress\
-        \teax_out\tecx_out\tedx_out\tebx_out\tesp_out\tebp_out\tesi_out\tedi_out\teip_out\tflags_out\tundefined\tarea_out";
+        \teax_out\tecx_out\tedx_out\tebx_out\tesp_out\tebp_out\tesi_out\tedi_out\teip_out\tflags_out\tundefined\tarea_out\tconstants_len\tconstants";
     io::write_all(STDOUT_FILENO, field(names, number));
 }
 

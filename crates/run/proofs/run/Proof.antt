@@ -7,15 +7,15 @@ use Rattle.run.specs.Steps.{fixedTo}
 
 returns : tie.Need-returns
 returns c =
-    let a = c .before .before .before .before .before .before .before .before .before .before .before .args in
-    hands-taken (fixedTo (a .code .now)) (a .l) (a .area .now) (a .budget) (c .before .before .before .before .before .before .before .before .refusal .ensures) (c .before .before .before .before .before .before .before .if1 .taken)
+    let a = c .before .before .before .before .before .before .before .before .before .before .before .before .args in
+    hands-taken (fixedTo (a .code .now) (a .constants .now)) (a .l) (a .area .now) (a .budget) (c .before .before .before .before .before .before .before .before .refusal .ensures) (c .before .before .before .before .before .before .before .if1 .taken)
     (rw (c .before .before .before .before .before .before .«open» .ensures) at (c .before .before .before .before .steps .ensures))
     (c .close .ensures)
 
 returns-2 : tie.Need-returns-2
 returns-2 c =
-    let a = c .before .before .before .before .args in
-    hands-refused (fixedTo (a .code .now)) (a .l) (a .area .now) (a .budget) (c .before .refusal .ensures) (c .if1 .left)
+    let a = c .before .before .before .before .before .args in
+    hands-refused (fixedTo (a .code .now) (a .constants .now)) (a .l) (a .area .now) (a .budget) (c .before .refusal .ensures) (c .if1 .left)
 
 pub run-spec : {M : Type 1} → statement M
 run-spec =

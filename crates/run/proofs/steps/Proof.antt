@@ -11,16 +11,16 @@ use Rattle.run.proofs.steps.Tie as tie
 use Rattle.run.specs.Steps.{fixedTo}
 
 abbrev Inv-loop : tie.InvT-loop
-Inv-loop code area₀ budget kept₀ at₀ n₀ area kept at n = Going (fixedTo code) area₀ budget at₀ area at n × Keeping code kept
+Inv-loop code constants area₀ budget kept₀ at₀ n₀ area kept at n = Going (fixedTo code constants) area₀ budget at₀ area at n × Keeping code kept
 
 abbrev μ-loop : tie.MeasureT-loop
-μ-loop code area₀ budget kept₀ at₀ n₀ area kept at n = budget - n
+μ-loop code constants area₀ budget kept₀ at₀ n₀ area kept at n = budget - n
 
 loop-holds : tie.Need-loop-holds Inv-loop μ-loop
 loop-holds c = (begins _ _ _ _, none-kept _ (c .stopping .ensures))
 
 same-length : tie.Need-same-length Inv-loop μ-loop
-same-length c = c .before .before .before .take .kept .1 .1 .0 ∙ c .before .before .before .before .before .before .before .before .before .before .loop .inv .0 .long
+same-length c = c .before .before .before .take .kept .1 .1 .1 .0 ∙ c .before .before .before .before .before .before .before .before .before .before .loop .inv .0 .long
 
 returns : tie.Need-returns Inv-loop μ-loop
 returns c =
@@ -32,7 +32,7 @@ returns c =
     (c .before .before .before .before .before .before .if1 .came)
     in
     ends-stopped _ _ _ _ (c .before .before .before .before .before .before .before .before .before .before .loop .inv .0) (c .before .before .before .before .before .before .before .before .before .loop-test .taken)
-    (taken (ready .tells) refl (c .before .before .before .take .ensures)) (c .if2 .taken)
+    (taken (ready .tells) _ refl (c .before .before .before .take .ensures)) (c .if2 .taken)
 
 loop-less : tie.Need-loop-less Inv-loop μ-loop
 loop-less c = omega arith
@@ -46,8 +46,8 @@ loop-again c =
     (λ there. known (c .before .before .before .before .before .before .before .before .before .before .before .loop .inv .1) slot (c .before .before .before .before .before .before .before .before .is-for .ensures) (there .0 .left) (there .1))
     (c .before .before .before .before .before .before .before .if1 .came)
     in (
-      goes _ _ _ _ (c .before .before .before .before .before .before .before .before .before .before .before .loop .inv .0) (c .before .before .before .before .before .before .before .before .before .before .loop-test .taken) (c .before .before .before .before .take .kept .1 .1 .0)
-          (stepped _ (taken (ready .tells) refl (c .before .before .before .before .take .ensures)) (c .before .if2 .left)),
+      goes _ _ _ _ (c .before .before .before .before .before .before .before .before .before .before .before .loop .inv .0) (c .before .before .before .before .before .before .before .before .before .before .loop-test .taken) (c .before .before .before .before .take .kept .1 .1 .1 .0)
+          (stepped _ (taken (ready .tells) _ refl (c .before .before .before .before .take .ensures)) (c .before .if2 .left)),
       ready .keeping,
     )
 

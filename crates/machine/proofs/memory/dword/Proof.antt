@@ -1,9 +1,9 @@
 -- `memory::dword` meets its contract: the four bytes in order. Assumes nothing.
 use native.Mathlib.Omega.{arith}
 use borrow.Author.Needs.{needs}
+use Rattle.machine.proofs.Access.{number-of-four}
 use Rattle.machine.proofs.memory.dword.Statement.{statement}
 use Rattle.machine.proofs.memory.dword.Tie as tie
-use Rattle.width.proofs.LittleEndian.{number-four}
 use Rattle.width.specs.Sizes.{bits, modulus}
 
 mul-result : tie.Need-mul-result
@@ -17,7 +17,7 @@ add-result c = omega arith
 returns : tie.Need-returns
 returns c =
     let read = c .before .before .before in
-    rw (number-four _ _ (read .before .before .before .before .pre), c .pair2 .ensures .is, read .pair .ensures .is)
+    rw (number-of-four _ (read .before .before .before .before .pre), c .pair2 .ensures .is, read .pair .ensures .is)
 
 pub dword-spec : {M : Type 1} → statement M
 dword-spec =
@@ -25,10 +25,7 @@ dword-spec =
     (tie.spec
     (λ c. search needs)
     (λ c. search needs)
-    (λ c. search needs)
     (λ c κs. search needs)
-    (λ c. search needs)
-    (λ c. search needs)
     (λ c. search needs)
     (λ c. search needs)
     (λ c κs. search needs)

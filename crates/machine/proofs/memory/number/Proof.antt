@@ -2,9 +2,9 @@
 use mathlib.Core.Path.{sym, _∙_}
 use native.Mathlib.Omega.{arith}
 use borrow.Author.Needs.{needs}
+use Rattle.machine.proofs.Access.{number-of-one}
 use Rattle.machine.proofs.memory.number.Statement.{statement}
 use Rattle.machine.proofs.memory.number.Tie as tie
-use Rattle.width.proofs.LittleEndian.{number-one}
 use Rattle.width.specs.Sizes.{bytes}
 
 shared-slice-read-wide : tie.Need-shared-slice-read-wide
@@ -23,16 +23,8 @@ dword-requires c κs = rw (c .enum-told3 .given .1) at (c .before .before .befor
 returns : tie.Need-returns
 unfolding bytes
 returns c =
-    let one = c .before .before .enum-told .given .1 in
-    rw one (c .wide .ensures .is ∙ sym (number-one _ _ (rw one at (c .before .before .before .before .before .pre))))
-
-returns-2 : tie.Need-returns-2
-unfolding bytes
-returns-2 c = rw (c .before .enum-told2 .given .1) (c .word .ensures)
-
-returns-3 : tie.Need-returns-3
-unfolding bytes
-returns-3 c = rw (c .before .enum-told3 .given .1) (c .dword .ensures)
+    c .wide .ensures .is
+    ∙ sym (number-of-one _ (rw (c .before .before .enum-told .given .1) at (c .before .before .before .before .before .pre)))
 
 pub number-spec : {M : Type 1} → statement M
 number-spec =
@@ -46,5 +38,5 @@ number-spec =
     (λ c. search needs)
     dword-requires
     returns
-    returns-2
-    returns-3)
+    (λ c. search needs)
+    (λ c. search needs))

@@ -1,26 +1,30 @@
 -- `memory::store` meets its contract: the bytes at their place, or the address outside. Assumes nothing.
 use mathlib.Core.Path.{sym, ap}
 use borrow.Author.Needs.{needs}
-use Rattle.machine.proofs.Access.{placed, missed, stored-allowed, stored-outside, store-allowed, store-outside}
+use Rattle.machine.proofs.Access.{placed, missed, stored-held, stored-outside, store-held, store-outside}
 use Rattle.machine.proofs.memory.store.Statement.{statement}
 use Rattle.machine.proofs.memory.store.Tie as tie
+use Rattle.machine.specs.Memory.{dataBase}
 use Rattle.machine.specs.declared.memory.Stored.{Stored}
 
 put-requires : tie.Need-put-requires
+unfolding dataBase
 put-requires c κs =
     let found = c .before .before .before .before in
     placed (found .before .bytes .ensures) (found .locate .ensures) (c .before .before .at .given .1) .fits
 
 returns : tie.Need-returns
+unfolding dataBase
 returns c =
     let place = c .before .before .before .before .before in
     let found = place .before .before in
     let p = placed (found .before .bytes .ensures) (found .locate .ensures) (place .at .given .1) in (
-      sym (stored-allowed _ _ _ (p .inside)),
-      rw (store-allowed _ _ _ _ (p .inside), ← p .place) (c .before .before .put .ensures),
+      sym (stored-held _ _ _ (p .inside)),
+      rw (store-held _ _ _ _ (p .inside), ← p .place) (c .before .before .put .ensures),
     )
 
 returns-2 : tie.Need-returns-2
+unfolding dataBase
 returns-2 c =
     let found = c .before .before .before in
     let p = missed (found .before .bytes .ensures) (found .locate .ensures) (c .before .b .given .1) in

@@ -8,12 +8,12 @@ use Rattle.run.specs.Steps.{steppedOf, dataAfter}
 
 returns : tie.Need-returns
 unfolding fetched
-returns c = let a = c .before .before .before .before .before .before .before .before .before .before .args in
+returns c = let a = c .before .before .before .before .before .before .before .before .before .before .before .args in
     rw (c .before .before .before .before .before .before .before .fetch .ensures .is (a .p) (a .m) (a .a), c .before .before .before .before .before .first .given .1) (c .before .before .finish .ensures)
 
 returns-2 : tie.Need-returns-2
 unfolding fetched steppedOf dataAfter
-returns-2 c = let a = c .before .before .before .before .before .before .before .args in
+returns-2 c = let a = c .before .before .before .before .before .before .before .before .args in
     rw (c .before .before .before .before .fetch .ensures .is (a .p) (a .m) (a .a), c .before .before .b .given .1) (record { is = c .stop .ensures; left = refl })
 
 pub perform-spec : {M : Type 1} → statement M

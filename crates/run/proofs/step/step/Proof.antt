@@ -6,7 +6,7 @@ use Rattle.run.proofs.step.step.Statement.{statement}
 use Rattle.run.proofs.step.step.Tie as tie
 
 returns : tie.Need-returns
-returns c = taken (c .before .before .before .before .site-at .ensures) refl (c .before .before .take .ensures)
+returns c = taken (c .before .before .before .before .site-at .ensures) _ refl (c .before .before .take .ensures)
 
 pub step-spec : {M : Type 1} → statement M
 step-spec = tie.close (tie.spec (λ c κs. search needs) (λ c κs. search needs) (λ c. search needs) returns)
