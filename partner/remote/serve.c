@@ -7,12 +7,16 @@
 
 #include "sangolid.h"
 
-/* What precedes a call's areas: the words (state or answer), the code or text, the bytes (data, marks or code). */
+/*
+ * What precedes a call's areas: the words (state or answer), the code or text, the constants (of a run only), the bytes
+ * (data, marks or code).
+ */
 struct request {
-    uint32_t function; /* 0: sangolid_run, 1: sangolid_check, 2: sangolid_hex */
-    uint32_t words_len;
-    uint32_t code_len;
-    uint32_t bytes_len;
+    uint64_t function; /* 0: sangolid_run, 1: sangolid_check, 2: sangolid_hex */
+    uint64_t words_len;
+    uint64_t code_len;
+    uint64_t constants_len;
+    uint64_t bytes_len;
     uint64_t budget;
 };
 
@@ -29,11 +33,12 @@ static void *area(size_t size) {
 }
 
 /* Makes one call on its areas, and gives back its number. */
-static uint32_t answer(const struct request *request, uint32_t *words, const uint8_t *code, uint8_t *bytes) {
+static uint32_t answer(const struct request *request, uint32_t *words, const uint8_t *code, const uint8_t *constants,
+                       uint8_t *bytes) {
     switch (request->function) {
     case 0:
-        return sangolid_run(words, request->words_len, code, request->code_len, bytes, request->bytes_len,
-                            request->budget);
+        return sangolid_run(words, request->words_len, code, request->code_len, constants, request->constants_len,
+                            bytes, request->bytes_len, request->budget);
     case 1:
         return sangolid_check(code, request->code_len, bytes, request->bytes_len, words, request->words_len);
     default:
@@ -45,14 +50,16 @@ static uint32_t answer(const struct request *request, uint32_t *words, const uin
 static void call(const struct request *request) {
     uint32_t *words = area(request->words_len * sizeof *words);
     uint8_t *code = area(request->code_len);
+    uint8_t *constants = area(request->constants_len);
     uint8_t *bytes = area(request->bytes_len);
-    uint32_t number = answer(request, words, code, bytes);
+    uint32_t number = answer(request, words, code, constants, bytes);
     need(fwrite(&number, sizeof number, 1, stdout) == 1);
     need(fwrite(words, sizeof *words, request->words_len, stdout) == request->words_len);
     need(fwrite(bytes, 1, request->bytes_len, stdout) == request->bytes_len);
     need(fflush(stdout) == 0);
     free(words);
     free(code);
+    free(constants);
     free(bytes);
 }
 

@@ -1,15 +1,17 @@
 //! Random cases: single instructions, whole blocks, refused inputs, broken code, block checks and hex files.
 
 mod bits;
+mod constants;
 mod hex;
 mod rooms;
 
 use std::collections::BTreeMap;
 
+use self::constants::{Areas, HALF};
 use crate::decode::{decode, Address, Instruction, Operand, Operation, Text, PREFIXES};
 use crate::machine::{
-    write, Machine, Width, ALWAYS, CODE_BASE, DATA_BASE, DF, EAX, EBP, ECX, EDI, EDX, ESI, ESP, HOME, KNOWN,
-    MAX_BUDGET, MAX_BYTES,
+    write, Machine, Width, ALWAYS, CODE_BASE, CONSTANTS_BASE, DATA_BASE, DF, EAX, EBP, ECX, EDI, EDX, ESI, ESP, HOME,
+    KNOWN, MAX_BUDGET, MAX_BYTES,
 };
 use crate::random::Random;
 use crate::run::run;
@@ -21,6 +23,7 @@ use crate::text::form;
 pub struct RunCase {
     pub machine: Machine,
     pub code: Vec<u8>,
+    pub constants: Vec<u8>,
     pub data: Vec<u8>,
     pub budget: u64,
 }
@@ -65,11 +68,12 @@ struct Form {
 /// How big the cases are.
 #[derive(Clone, Copy, PartialEq, Eq)]
 pub enum Size {
-    /// Code up to 16 bytes, data up to 64, budgets up to 12; longer only if refused for it, and then all 0. Hex files
-    /// up to 220 characters, with areas that hold only zeros from the 65th byte on.
+    /// Code up to 16 bytes, data and constants up to 64, budgets up to 12; longer only if refused for it, and then all
+    /// 0, or constants that are 0 from the 65th byte on. Hex files up to 220 characters, with areas that hold only
+    /// zeros from the 65th byte on.
     Small,
-    /// Data up to a few hundred bytes, blocks of many instructions, code that goes round in more than 64 bytes, hex
-    /// files that fill the whole block.
+    /// Data and constants up to a few hundred bytes, at times as many as there may be, blocks of many instructions,
+    /// code that goes round in more than 64 bytes, hex files that fill the whole block.
     Large,
 }
 
@@ -149,7 +153,7 @@ impl Generator {
     /// The next case, at least one in seven a hex file; single instructions go through all forms in turn.
     pub fn next_case(&mut self) -> Case {
         // Vectors have steps for each form beside these cases, so among these more are hex files.
-        let kinds = if self.size == Size::Small { 1280 } else { 1180 };
+        let kinds = if self.size == Size::Small { 1450 } else { 1270 };
         match self.random.below(kinds) {
             0..=589 => Case::Run(self.single()),
             590..=649 => Case::Run(self.bits()),
@@ -164,9 +168,9 @@ impl Generator {
             890..=909 => Case::Run(self.refused()),
             910..=914 if self.size == Size::Large => Case::Run(self.at_limits()),
             910..=914 => Case::Run(self.refused()),
-            915..=949 => Case::Check(self.check_whole()),
-            950..=979 => Case::Check(self.check_broken()),
-            980..=989 => Case::Check(self.check_lengths()),
+            915..=939 => Case::Check(self.check_whole()),
+            940..=969 => Case::Check(self.check_broken()),
+            970..=989 => Case::Check(self.check_lengths()),
             990..=994 => {
                 let length = self.random.pick(&[0, 1, 10, 11, 13, 24]);
                 Case::StateLength(self.single(), length)
@@ -179,6 +183,7 @@ impl Generator {
                 let length = self.random.pick(&[0, 2, 3]);
                 Case::HexAnswerLength(self.hex(), length)
             }
+            1005..=1084 => Case::Run(self.at_constants()),
             _ => Case::Hex(self.hex()),
         }
     }
@@ -228,8 +233,13 @@ impl Generator {
         Machine { regs, eip: CODE_BASE, flags: self.flags() }
     }
 
-    /// An address for an access: mostly inside the data, often across an end of it, at times far away.
-    fn address(&mut self, length: usize) -> u32 {
+    /// An address for an access: by their share at the constants, else mostly inside the data, often across an end of
+    /// it, at times far away.
+    fn address(&mut self, areas: &Areas) -> u32 {
+        if self.random.percent(areas.share) {
+            return self.constant_address(areas);
+        }
+        let length = areas.data.len();
         let width = self.random.pick(&[1usize, 2, 4]);
         let end = DATA_BASE + length as u32;
         match self.random.below(20) {
@@ -282,32 +292,39 @@ impl Generator {
     pub fn finishing(&mut self, form: usize) -> RunCase {
         loop {
             let case = RunCase { budget: 1, ..self.single_of(form) };
-            if run(case.machine, &case.code, &mut case.data.clone(), 1).steps == 1 {
+            if run(case.machine, &case.code, &case.constants, &mut case.data.clone(), 1).steps == 1 {
                 return case;
             }
         }
     }
 
-    /// One instruction of the next form in turn, alone in its code, with data of the given length.
+    /// One instruction of the next form in turn, alone in its code, with data and constants of the given length.
     pub fn alone(&mut self, length: usize) -> RunCase {
         let form = self.made % self.forms.len();
         self.made += 1;
-        self.aimed(form, length)
+        let areas = Areas { constants: self.bytes(length), ..self.areas(length) };
+        self.aimed(form, areas)
     }
 
-    /// One instruction alone in its code, with registers and data that give it something to do.
-    fn aimed(&mut self, form: usize, length: usize) -> RunCase {
+    /// One instruction alone in its code, with registers and areas that give it something to do.
+    fn aimed(&mut self, form: usize, mut areas: Areas) -> RunCase {
         let mut code = self.instruction_of(form);
         let mut machine = self.machine();
-        let mut data = self.bytes(length);
-        self.aim(&mut code, &mut machine, &mut data);
-        RunCase { machine, code, data, budget: 1 }
+        self.aim(&mut code, &mut machine, &mut areas);
+        let Areas { constants, data, .. } = areas;
+        RunCase { machine, code, constants, data, budget: 1 }
     }
 
     /// One instruction, at times with other bytes before or behind it.
     fn single_of(&mut self, form: usize) -> RunCase {
         let length = self.data_length();
-        let RunCase { mut machine, mut code, data, .. } = self.aimed(form, length);
+        let areas = self.areas(length);
+        self.single_in(form, areas)
+    }
+
+    /// One instruction with these areas, at times with other bytes before or behind it.
+    fn single_in(&mut self, form: usize, areas: Areas) -> RunCase {
+        let RunCase { mut machine, mut code, constants, data, .. } = self.aimed(form, areas);
         let room = if self.size == Size::Small { 4 } else { 20 };
         if self.random.percent(20) {
             let before = self.random.below(room);
@@ -325,65 +342,67 @@ impl Generator {
             1..=14 => 1,
             _ => self.random.between(2, 12) as u64,
         };
-        RunCase { machine, code, data, budget }
+        RunCase { machine, code, constants, data, budget }
     }
 
-    /// Changes displacement, registers and data so that the instruction's accesses are interesting.
-    fn aim(&mut self, code: &mut [u8], machine: &mut Machine, data: &mut [u8]) {
+    /// Changes displacement, registers and areas so that the instruction's accesses are interesting.
+    fn aim(&mut self, code: &mut [u8], machine: &mut Machine, areas: &mut Areas) {
         let instruction = decode(code).expect("the code is an instruction");
         match instruction.operation {
             Operation::Shift(_, _, Operand::Register(ECX)) if self.random.percent(70) => {
                 machine.set_register(ECX, Width::Byte, u32::from(self.random.byte()));
             }
             Operation::Push(_) | Operation::Call(_) => {
-                machine.regs[usize::from(ESP)] = self.address(data.len()).wrapping_add(4);
+                machine.regs[usize::from(ESP)] = self.address(areas).wrapping_add(4);
             }
             Operation::Pop(_) | Operation::Ret(_) => {
-                let top = self.address(data.len());
+                let top = self.address(areas);
                 machine.regs[usize::from(ESP)] = top;
                 let word = self.random.pick(&[HOME, CODE_BASE, CODE_BASE + 1, DATA_BASE]);
                 if self.random.percent(70) {
-                    let _ = write(data, top, Width::Dword, word);
+                    areas.plant(top, Width::Dword, word);
                 }
             }
-            Operation::Leave => machine.regs[usize::from(EBP)] = self.address(data.len()),
-            Operation::Text(_) => self.aim_text(&instruction, machine, data),
+            Operation::Leave => machine.regs[usize::from(EBP)] = self.address(areas),
+            Operation::Text(_) => self.aim_text(&instruction, machine, areas),
             Operation::Loop(..) => machine.regs[usize::from(ECX)] = self.random.pick(&[0, 1, 2, 0xFFFF_FFFF]),
             _ => {}
         }
         let distance = self.aim_bit(&instruction, machine);
         if let Some(address) = instruction.memory() {
-            self.aim_memory(&address, distance, code, machine, data.len());
+            self.aim_memory(&address, distance, code, machine, areas);
         }
         match instruction.operation {
             Operation::Div(operand) | Operation::Idiv(operand) if self.random.percent(60) => {
-                self.aim_division(&instruction, &operand, machine, data);
+                self.aim_division(&instruction, &operand, machine, areas);
             }
             Operation::Scan(_, _, source) if self.random.percent(60) => {
-                self.aim_scan(&source, instruction.width, machine, data);
+                self.aim_scan(&source, instruction.width, machine, areas);
             }
             Operation::DoubleShift(.., count) if self.random.percent(80) => self.aim_count(&count, code, machine),
             _ => {}
         }
     }
 
-    /// Points ESI and EDI at the data and makes ECX a small count.
-    fn aim_text(&mut self, instruction: &Instruction, machine: &mut Machine, data: &mut [u8]) {
-        machine.regs[usize::from(ESI)] = self.address(data.len());
-        machine.regs[usize::from(EDI)] = self.address(data.len());
+    /// Points ESI and EDI at the areas and makes ECX a small count.
+    fn aim_text(&mut self, instruction: &Instruction, machine: &mut Machine, areas: &Areas) {
+        let destination = self.address(areas);
+        machine.regs[usize::from(ESI)] = self.address(areas);
+        machine.regs[usize::from(EDI)] = destination;
         if self.random.percent(85) {
             machine.regs[usize::from(ECX)] = self.random.below(20) as u32;
         }
         let compares = instruction.operation == Operation::Text(Text::Scas);
-        if compares && !data.is_empty() && self.random.percent(50) {
-            let byte = u32::from(data[self.random.below(data.len())]);
+        let bytes = if destination < CONSTANTS_BASE { &areas.data } else { &areas.constants };
+        if compares && !bytes.is_empty() && self.random.percent(50) {
+            let byte = u32::from(bytes[self.random.below(bytes.len())]);
             machine.regs[usize::from(EAX)] = byte * 0x0101_0101;
         }
     }
 
     /// Moves a memory operand so that the access, so far from the operand's address, is at an interesting one.
-    fn aim_memory(&mut self, address: &Address, distance: u32, code: &mut [u8], machine: &mut Machine, length: usize) {
-        let wanted = self.address(length).wrapping_sub(distance);
+    fn aim_memory(&mut self, address: &Address, distance: u32, code: &mut [u8], machine: &mut Machine, areas: &Areas) {
+        let wanted = self.address(areas).wrapping_sub(distance);
         let missing = |machine: &Machine| wanted.wrapping_sub(effective_address(machine, address));
         match address.base {
             Some(base) if self.random.percent(90) => {
@@ -400,12 +419,12 @@ impl Generator {
     }
 
     /// Picks divisor, quotient and remainder and makes the dividend from them.
-    fn aim_division(&mut self, instruction: &Instruction, operand: &Operand, machine: &mut Machine, data: &mut [u8]) {
+    fn aim_division(&mut self, instruction: &Instruction, operand: &Operand, machine: &mut Machine, areas: &mut Areas) {
         let width = instruction.width;
         let signed = matches!(instruction.operation, Operation::Idiv(_));
         let divisor = self.value() & width.mask();
         if !matches!(operand, Operand::Register(EAX | EDX)) {
-            give(operand, width, divisor, machine, data);
+            give(operand, width, divisor, machine, areas);
         }
         let half = 1i128 << (width.bits() - 1);
         let near = self.random.below(5) as i128 - 2;
@@ -457,7 +476,7 @@ impl Generator {
         instructions.concat()
     }
 
-    /// An instruction for a block; its memory operand mostly lies in the data.
+    /// An instruction for a block; its memory operand mostly lies in the data, at times in the constants.
     fn block_instruction(&mut self, length: usize) -> Vec<u8> {
         let mut bytes = match self.random.below(10) {
             0 => self.flow_instruction(),
@@ -467,7 +486,8 @@ impl Generator {
         let Some(address) = instruction.memory() else { return bytes };
         let absolute = address.base.is_none() && address.index.is_none();
         if absolute && self.random.percent(90) {
-            let wanted = DATA_BASE + self.random.below(length.max(5) - 4) as u32;
+            let base = if self.random.percent(10) { CONSTANTS_BASE } else { DATA_BASE };
+            let wanted = base + self.random.below(length.max(5) - 4) as u32;
             replace_displacement(&mut bytes, address.displacement, wanted);
             return bytes;
         }
@@ -525,7 +545,8 @@ impl Generator {
         case
     }
 
-    /// The code with data in which a stack's top holds home, and EBP, ESI and EDI point; no budget yet.
+    /// The code with data in which a stack's top holds home, and EBP, ESI and EDI point, ESI at times into as many
+    /// constants; no budget yet.
     fn with_stack(&mut self, code: Vec<u8>, length: usize) -> RunCase {
         let mut machine = self.machine();
         let mut data = self.bytes(length);
@@ -535,20 +556,26 @@ impl Generator {
         for register in [EBP, ESI, EDI] {
             machine.regs[usize::from(register)] = DATA_BASE + self.random.below(length) as u32;
         }
+        if self.random.percent(25) {
+            machine.regs[usize::from(ESI)] = CONSTANTS_BASE + self.random.below(length) as u32;
+        }
         machine.regs[usize::from(ECX)] = self.random.below(30) as u32;
-        RunCase { machine, code, data, budget: 0 }
+        RunCase { machine, code, constants: self.bytes(length), data, budget: 0 }
     }
 
     /// A repeated string instruction or a block, stopped by its budget and resumed.
     fn resumed(&mut self) -> Case {
-        let mut case = if self.random.percent(30) {
-            self.block_run()
-        } else {
-            let form = self.form_with(" REP");
-            let length = self.data_length().max(8);
-            let mut case = self.aimed(form, length);
-            case.machine.flags &= if self.random.percent(60) { !DF } else { u32::MAX };
-            case
+        let mut case = match self.random.below(10) {
+            0..=2 => self.block_run(),
+            3..=5 => return Case::Resume(self.rounds(), self.random.below(24) as u64),
+            _ => {
+                let form = self.form_with(" REP");
+                let length = self.data_length().max(8);
+                let areas = Areas { share: HALF, ..self.areas(length) };
+                let mut case = self.aimed(form, areas);
+                case.machine.flags &= if self.random.percent(60) { !DF } else { u32::MAX };
+                case
+            }
         };
         case.budget = self.random.below(12) as u64;
         Case::Resume(case, self.random.below(24) as u64)
@@ -572,7 +599,8 @@ impl Generator {
             }
         }
         let length = self.data_length();
-        RunCase { machine: self.machine(), code, data: self.bytes(length), budget: self.random.between(1, 12) as u64 }
+        let Areas { constants, data, .. } = self.areas(length);
+        RunCase { machine: self.machine(), code, constants, data, budget: self.random.between(1, 12) as u64 }
     }
 
     /// Code that ends inside an instruction.
@@ -605,12 +633,12 @@ impl Generator {
         case
     }
 
-    /// Inputs that numbers 10 to 13 refuse, alone or together.
-    fn refused(&mut self) -> RunCase {
+    /// Inputs that numbers 10 to 13 and 15 refuse, alone or together.
+    pub fn refused(&mut self) -> RunCase {
         let mut case = self.single();
-        let which = match self.random.below(5) {
-            0 => self.random.between(1, 15),
-            only => 1 << (only - 1),
+        let which = match self.random.below(7) {
+            0 | 1 => self.random.between(1, 31),
+            only => 1 << (only - 2),
         };
         if which & 1 != 0 {
             let length = self.random.pick(&[0, 0, MAX_BYTES + 1, MAX_BYTES + 3]);
@@ -629,20 +657,26 @@ impl Generator {
         if which & 8 != 0 {
             case.budget = self.random.pick(&[MAX_BUDGET + 1, MAX_BUDGET + 2, 1 << 32, u64::MAX]);
         }
+        if which & 16 != 0 {
+            case.constants = vec![0; self.random.pick(&[MAX_BYTES + 1, MAX_BYTES + 1, MAX_BYTES + 2, MAX_BYTES + 4])];
+        }
         case
     }
 
-    /// Code and data of exactly the most bytes allowed, used at their ends.
+    /// Code, data and constants of exactly the most bytes allowed, used at their ends.
     fn at_limits(&mut self) -> RunCase {
         let mut case = self.single();
         let mut code = self.instruction();
-        let mut data = vec![0; MAX_BYTES];
-        self.aim(&mut code, &mut case.machine, &mut data);
+        let constants = self.long_constants(MAX_BYTES);
+        let mut areas = Areas { constants, data: vec![0; MAX_BYTES], share: HALF };
+        self.aim(&mut code, &mut case.machine, &mut areas);
         let offset = MAX_BYTES - code.len() + self.random.below(2);
         let mut whole = vec![0; offset];
         whole.extend(code);
         whole.truncate(MAX_BYTES);
-        RunCase { machine: Machine { eip: CODE_BASE + offset as u32, ..case.machine }, code: whole, data, budget: 1 }
+        let Areas { constants, data, .. } = areas;
+        let machine = Machine { eip: CODE_BASE + offset as u32, ..case.machine };
+        RunCase { machine, code: whole, constants, data, budget: 1 }
     }
 
     /// Instructions for a block check.
@@ -710,13 +744,11 @@ impl Generator {
     }
 }
 
-/// Gives an operand a value, if it is a register or lies in the data.
-fn give(operand: &Operand, width: Width, value: u32, machine: &mut Machine, data: &mut [u8]) {
+/// Gives an operand a value, if it is a register or lies in one of the areas.
+fn give(operand: &Operand, width: Width, value: u32, machine: &mut Machine, areas: &mut Areas) {
     match *operand {
         Operand::Register(number) => machine.set_register(number, width, value),
-        Operand::Memory(address) => {
-            let _ = write(data, effective_address(machine, &address), width, value);
-        }
+        Operand::Memory(address) => areas.plant(effective_address(machine, &address), width, value),
         Operand::Immediate(_) => {}
     }
 }

@@ -5,7 +5,7 @@ use crate::check::{check, Verdict};
 use crate::coverage::Coverage;
 use crate::hex::{read, Reading};
 use crate::machine::{Machine, CODE_BASE};
-use crate::run::{run, run_observed, Outcome};
+use crate::run::{run, Outcome};
 use crate::text::{describe, hex, machine_text};
 
 /// Words of the state area: eight registers, EIP, flags, steps, address.
@@ -20,7 +20,7 @@ const STEPS_SEARCHED: u64 = 5000;
 /// A program with Sangolid's C interface.
 pub trait Other {
     /// `sangolid_run`.
-    fn run(&self, state: &mut [u32], code: &[u8], area: &mut [u8], budget: u64) -> u32;
+    fn run(&self, state: &mut [u32], code: &[u8], constants: &[u8], area: &mut [u8], budget: u64) -> u32;
     /// `sangolid_check`.
     fn check(&self, code: &[u8], marks: &mut [u8], answer: &mut [u32]) -> u32;
     /// `sangolid_hex`.
@@ -47,12 +47,8 @@ pub(crate) struct RunResult {
 fn partner_run(case: &RunCase, coverage: Option<&mut Coverage>) -> RunResult {
     let mut data = case.data.clone();
     let outcome = match coverage {
-        None => run(case.machine, &case.code, &mut data, case.budget),
-        Some(coverage) => {
-            let outcome = run_observed(case.machine, &case.code, &mut data, case.budget, |seen| coverage.saw(&seen));
-            coverage.ran(&outcome, &case.code);
-            outcome
-        }
+        None => run(case.machine, &case.code, &case.constants, &mut data, case.budget),
+        Some(coverage) => coverage.run(case, &mut data),
     };
     RunResult { outcome, data }
 }
@@ -70,7 +66,7 @@ fn state_words(machine: &Machine) -> [u32; STATE_WORDS] {
 pub(crate) fn other_run(case: &RunCase, other: &dyn Other) -> RunResult {
     let mut state = state_words(&case.machine);
     let mut data = case.data.clone();
-    let number = other.run(&mut state, &case.code, &mut data, case.budget);
+    let number = other.run(&mut state, &case.code, &case.constants, &mut data, case.budget);
     let mut regs = [0; 8];
     regs.copy_from_slice(&state[..8]);
     let machine = Machine { regs, eip: state[8], flags: state[9] };
@@ -139,8 +135,10 @@ fn run_report(case: &RunCase, kind: Difference, other: &dyn Other) -> String {
         }
     };
     format!(
-        "{kind:?} disagreement in a run, {step}\n  code  {}\n  data  {}\n  budget {:X}\n  in    {}\n  ours  {}\n  other {}",
+        "{kind:?} disagreement in a run, {step}\n  code  {}\n  constants {}\n  data  {}\n  budget {:X}\n  in    {}\
+         \n  ours  {}\n  other {}",
         hex(&case.code),
+        hex(&case.constants),
         hex(&case.data),
         case.budget,
         machine_text(&case.machine),
@@ -244,12 +242,7 @@ impl<'a> Comparison<'a> {
             }
             Case::Resume(case, more) => {
                 let first = self.run(case);
-                let rest = RunCase {
-                    machine: first.outcome.machine,
-                    code: case.code.clone(),
-                    data: first.data,
-                    budget: *more,
-                };
+                let rest = RunCase { machine: first.outcome.machine, data: first.data, budget: *more, ..case.clone() };
                 self.coverage.resume();
                 self.run(&rest);
                 self.run(&RunCase { budget: case.budget + more, ..case.clone() });
@@ -258,7 +251,7 @@ impl<'a> Comparison<'a> {
             Case::StateLength(case, length) => {
                 let given: Vec<u32> = state_words(&case.machine).into_iter().cycle().take(*length).collect();
                 let (mut state, mut data) = (given.clone(), case.data.clone());
-                let number = self.other.run(&mut state, &case.code, &mut data, case.budget);
+                let number = self.other.run(&mut state, &case.code, &case.constants, &mut data, case.budget);
                 if number != WRONG_AREA || state != given || data != case.data {
                     self.disagree(Difference::Defined, || {
                         format!("state area of {length} words: number {number}, given {given:X?}, back {state:X?}")

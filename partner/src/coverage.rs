@@ -1,6 +1,7 @@
 //! Counts of what a set of cases came to.
 
 mod bits;
+mod constants;
 mod hex;
 mod parity;
 mod undefined;
@@ -9,12 +10,14 @@ use std::collections::BTreeMap;
 use std::fmt::{self, Display, Formatter};
 
 use self::bits::Bits;
+use self::constants::{reads_constants, Constants};
 use self::hex::Hex;
 use self::parity::Parity;
 use self::undefined::Undefined;
+use crate::cases::RunCase;
 use crate::decode::{Instruction, Operand, Operation, PREFIXES};
 use crate::machine::{Machine, Width, CODE_BASE, ECX, HOME, MAX_BYTES};
-use crate::run::{Outcome, Seen};
+use crate::run::{run_observed, Outcome, Seen};
 use crate::step::Step;
 use crate::text::{form, prefixes};
 
@@ -94,6 +97,8 @@ struct Course {
     resumed: bool,
     /// The last step left its repeated instruction unfinished.
     inside: bool,
+    /// A step read constants.
+    constants: bool,
     /// Address of the jump that the last step took.
     jump: Option<u32>,
     /// A jump was taken to another instruction, which finished.
@@ -117,6 +122,7 @@ impl Course {
         self.jumped |= self.jump.is_some_and(|from| from != at);
         self.jump = (jumps && next != at.wrapping_add(length)).then_some(at);
         self.inside = repeat.is_some() && next == at;
+        self.constants |= reads_constants(seen);
         if self.at.replace(at) != Some(at) {
             self.come_to(at);
         }
@@ -143,6 +149,7 @@ pub struct Coverage {
     /// The last run ended inside a repeated instruction.
     inside: bool,
     resumed: u64,
+    resumed_with_constants: u64,
     jumped: u64,
     modrm: Group,
     sib: [Group; 3],
@@ -150,6 +157,7 @@ pub struct Coverage {
     bits: Bits,
     undefined: Undefined,
     parity: Parity,
+    constants: Constants,
     loops: Group,
     starts: Group,
     ends: Group,
@@ -183,12 +191,13 @@ impl Coverage {
         let sib = |mode| Group::new(format!("SIB bytes with mod {mode}"), (0..=0xFF).map(|byte| format!("{byte:02X}")));
         Coverage {
             forms: form_names.map(|name| (name.to_string(), Count::default())).collect(),
-            runs: zero(&[0, 1, 2, 3, 4, 5, 6, 7, 10, 11, 12, 13]),
+            runs: zero(&[0, 1, 2, 3, 4, 5, 6, 7, 10, 11, 12, 13, 15]),
             checks: zero(&[0, 10, 14, 21, 22, 23]),
             readings: zero(&[0, 30, 31, 32, 33, 34, 35, 36, 37]),
             course: Course::default(),
             inside: false,
             resumed: 0,
+            resumed_with_constants: 0,
             jumped: 0,
             modrm: Group::new("ModR/M shapes of memory".to_string(), modrm),
             sib: [0, 1, 2].map(sib),
@@ -196,6 +205,7 @@ impl Coverage {
             bits: Bits::new(),
             undefined: Undefined::new(),
             parity: Parity::new(),
+            constants: Constants::new(),
             loops: runs("ways of going round", &LOOPS),
             starts: runs("starts outside the code", &OUTSIDE),
             ends: runs("ways out of the code", &OUTSIDE),
@@ -203,11 +213,21 @@ impl Coverage {
         }
     }
 
+    /// Runs the case, and counts what it came to.
+    pub fn run(&mut self, case: &RunCase, data: &mut [u8]) -> Outcome {
+        self.constants.took(case);
+        let RunCase { machine, code, constants, budget, .. } = case;
+        let outcome = run_observed(*machine, code, constants, data, *budget, |seen| self.saw(&seen));
+        self.ran(&outcome, code);
+        outcome
+    }
+
     /// Counts an instruction that a run came to.
     pub fn saw(&mut self, seen: &Seen) {
         self.bits.saw(seen);
         self.undefined.saw(seen);
         self.parity.saw(seen);
+        self.constants.saw(seen);
         let count = self.forms.entry(form(seen.bytes, seen.instruction)).or_default();
         match seen.stepped {
             Ok(step) => {
@@ -219,9 +239,15 @@ impl Coverage {
         }
     }
 
-    /// Whether the instruction has a shape that never came, of the groups of M-100, M-101 and M-103.
+    /// Whether the instruction has a shape that never came, of the groups of M-100, M-101, M-103 and M-104.
     pub fn is_new(&self, seen: &Seen) -> bool {
-        self.bits.is_new(seen) || self.undefined.is_new(seen) || self.parity.is_new(seen)
+        let flags = self.undefined.is_new(seen) || self.parity.is_new(seen);
+        self.bits.is_new(seen) || flags || self.constants.is_new(seen)
+    }
+
+    /// Whether the case has a number of constants, or refusals that apply together, that never came.
+    pub fn is_new_case(&self, case: &RunCase) -> bool {
+        self.constants.is_new_case(case)
     }
 
     /// Whether every shape of bit tests, scans, double shifts and conditional moves came.
@@ -237,6 +263,16 @@ impl Coverage {
     /// Whether every count of ones that decides PF came.
     pub fn has_all_parities(&self) -> bool {
         self.parity.group().is_full()
+    }
+
+    /// Whether every shape of accesses at constants came.
+    pub fn has_all_accesses(&self) -> bool {
+        self.constants.accesses().all(Group::is_full)
+    }
+
+    /// Whether every number of constants and all refusals that apply together came.
+    pub fn has_all_cases(&self) -> bool {
+        self.constants.cases().all(Group::is_full)
     }
 
     /// Counts the shapes of a finished step.
@@ -258,6 +294,7 @@ impl Coverage {
         let course = std::mem::take(&mut self.course);
         self.inside = course.inside;
         self.resumed += u64::from(course.resumed && outcome.steps > 0);
+        self.resumed_with_constants += u64::from(course.resumed && course.constants);
         self.jumped += u64::from(course.jumped);
         for (place, _) in course.loops.iter().enumerate().filter(|(_, met)| **met) {
             self.loops.count(place);
@@ -294,9 +331,13 @@ impl Coverage {
         self.hex.has_all_short()
     }
 
-    /// The two counts of courses with their names.
-    fn courses(&self) -> [(u64, &'static str); 2] {
-        [(self.resumed, "resumed inside a repeated instruction"), (self.jumped, "block with a jump taken")]
+    /// The counts of courses with their names.
+    fn courses(&self) -> [(u64, &'static str); 3] {
+        [
+            (self.resumed, "resumed inside a repeated instruction"),
+            (self.resumed_with_constants, "resumed so, with constants read"),
+            (self.jumped, "block with a jump taken"),
+        ]
     }
 
     /// Each kind of case with its numbers and how often they came.
@@ -311,7 +352,8 @@ impl Coverage {
         let runs = [&self.loops, &self.starts, &self.ends];
         let steps = [&self.modrm].into_iter().chain(&self.sib).chain([&self.prefixes]);
         let flags = self.undefined.groups().chain([self.parity.group()]);
-        steps.chain(self.bits.groups()).chain(flags).chain(runs).chain(self.hex.groups())
+        let constants = self.constants.accesses().chain(self.constants.cases());
+        steps.chain(self.bits.groups()).chain(flags).chain(constants).chain(runs).chain(self.hex.groups())
     }
 
     /// Forms that never finished a step, and numbers and courses that never came.

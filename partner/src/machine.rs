@@ -1,12 +1,14 @@
-//! The machine: registers, flags, operand widths and the data area's access rule.
+//! The machine: registers, flags, operand widths and the access rules of data and constants.
 
 /// Address of the first code byte.
 pub const CODE_BASE: u32 = 0x0001_0000;
 /// Address of the first data byte.
 pub const DATA_BASE: u32 = 0x0010_0000;
+/// Address of the first constant.
+pub const CONSTANTS_BASE: u32 = 0x0020_0000;
 /// Address that a finished block returns to.
 pub const HOME: u32 = 0xFFFF_0000;
-/// Most bytes that code or data may have.
+/// Most bytes that code, data or constants may have.
 pub const MAX_BYTES: usize = 65_536;
 /// Most steps that a budget may give.
 pub const MAX_BUDGET: u64 = 1_000_000;
@@ -140,28 +142,36 @@ impl Machine {
     }
 }
 
-/// Place in the data area of an allowed access.
-fn place(data: &[u8], address: u32, width: Width) -> Option<usize> {
+/// Place of an access in an area of this length from the base on, if it lies wholly there.
+pub fn place(base: u32, length: usize, address: u32, width: Width) -> Option<usize> {
     let start = u64::from(address);
     let end = start + u64::from(width.bytes());
-    let base = u64::from(DATA_BASE);
-    if base <= start && end <= base + data.len() as u64 {
+    let base = u64::from(base);
+    if base <= start && end <= base + length as u64 {
         Some((start - base) as usize)
     } else {
         None
     }
 }
 
+/// The bytes of an allowed read, as a part of whichever area holds them.
+fn held<'a>(constants: &'a [u8], data: &'a [u8], address: u32, width: Width) -> Option<&'a [u8]> {
+    let part = |base, area: &'a [u8]| {
+        let at = place(base, area.len(), address, width)?;
+        Some(&area[at..at + width.bytes() as usize])
+    };
+    part(DATA_BASE, data).or_else(|| part(CONSTANTS_BASE, constants))
+}
+
 /// Reads a little-endian value, if the access is allowed.
-pub fn read(data: &[u8], address: u32, width: Width) -> Option<u32> {
-    let at = place(data, address, width)?;
-    let bytes = &data[at..at + width.bytes() as usize];
+pub fn read(constants: &[u8], data: &[u8], address: u32, width: Width) -> Option<u32> {
+    let bytes = held(constants, data, address, width)?;
     Some(bytes.iter().rev().fold(0, |value, &byte| (value << 8) | u32::from(byte)))
 }
 
-/// Writes a little-endian value, if the access is allowed.
+/// Writes a little-endian value, if the access is allowed; only data are written.
 pub fn write(data: &mut [u8], address: u32, width: Width, value: u32) -> Option<()> {
-    let at = place(data, address, width)?;
+    let at = place(DATA_BASE, data.len(), address, width)?;
     let count = width.bytes() as usize;
     data[at..at + count].copy_from_slice(&value.to_le_bytes()[..count]);
     Some(())

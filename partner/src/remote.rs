@@ -7,9 +7,12 @@ use std::process::{ChildStdin, ChildStdout, Command, Stdio};
 use crate::compare::Other;
 
 /// The functions, by the numbers that `remote/serve.c` gives them.
-const RUN: u32 = 0;
-const CHECK: u32 = 1;
-const HEX: u32 = 2;
+const RUN: u64 = 0;
+const CHECK: u64 = 1;
+const HEX: u64 = 2;
+
+/// The areas of a call: words (state or answer), code or text, constants, bytes (data, marks or code).
+type Areas<'a> = (&'a mut [u32], &'a [u8], &'a [u8], &'a mut [u8]);
 
 /// The program `remote/serve.c`, running.
 pub struct Remote {
@@ -31,16 +34,17 @@ impl Remote {
     }
 
     /// Makes one call: sends the areas, and takes back the number, the words and the bytes.
-    fn ask(&self, function: u32, words: &mut [u32], code: &[u8], bytes: &mut [u8], budget: u64) -> io::Result<u32> {
+    fn ask(&self, function: u64, (words, code, constants, bytes): Areas, budget: u64) -> io::Result<u32> {
         let (to, from) = &mut *self.pipes.borrow_mut();
-        for number in [function, words.len() as u32, code.len() as u32, bytes.len() as u32] {
+        let lengths = [words.len(), code.len(), constants.len(), bytes.len()].map(|length| length as u64);
+        for number in [function].into_iter().chain(lengths).chain([budget]) {
             to.write_all(&number.to_le_bytes())?;
         }
-        to.write_all(&budget.to_le_bytes())?;
         for word in words.iter() {
             to.write_all(&word.to_le_bytes())?;
         }
         to.write_all(code)?;
+        to.write_all(constants)?;
         to.write_all(bytes)?;
         to.flush()?;
         let number = read_word(from)?;
@@ -52,8 +56,8 @@ impl Remote {
     }
 
     /// Makes one call, or ends the whole comparison where the program doesn't answer.
-    fn call(&self, function: u32, words: &mut [u32], code: &[u8], bytes: &mut [u8], budget: u64) -> u32 {
-        self.ask(function, words, code, bytes, budget).unwrap_or_else(|error| {
+    fn call(&self, function: u64, areas: Areas, budget: u64) -> u32 {
+        self.ask(function, areas, budget).unwrap_or_else(|error| {
             eprintln!("Sangolid's program doesn't answer: {error}");
             std::process::exit(2)
         })
@@ -68,15 +72,15 @@ fn read_word(from: &mut impl Read) -> io::Result<u32> {
 }
 
 impl Other for Remote {
-    fn run(&self, state: &mut [u32], code: &[u8], area: &mut [u8], budget: u64) -> u32 {
-        self.call(RUN, state, code, area, budget)
+    fn run(&self, state: &mut [u32], code: &[u8], constants: &[u8], area: &mut [u8], budget: u64) -> u32 {
+        self.call(RUN, (state, code, constants, area), budget)
     }
 
     fn check(&self, code: &[u8], marks: &mut [u8], answer: &mut [u32]) -> u32 {
-        self.call(CHECK, answer, code, marks, 0)
+        self.call(CHECK, (answer, code, &[], marks), 0)
     }
 
     fn hex(&self, text: &[u8], code: &mut [u8], answer: &mut [u32]) -> u32 {
-        self.call(HEX, answer, text, code, 0)
+        self.call(HEX, (answer, text, &[], code), 0)
     }
 }

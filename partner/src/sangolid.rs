@@ -8,6 +8,8 @@ extern "C" {
         state_len: usize,
         code: *const u8,
         code_len: usize,
+        constants: *const u8,
+        constants_len: usize,
         area: *mut u8,
         area_len: usize,
         budget: u64,
@@ -34,7 +36,7 @@ extern "C" {
 pub struct Sangolid;
 
 impl Other for Sangolid {
-    fn run(&self, state: &mut [u32], code: &[u8], area: &mut [u8], budget: u64) -> u32 {
+    fn run(&self, state: &mut [u32], code: &[u8], constants: &[u8], area: &mut [u8], budget: u64) -> u32 {
         // Each pointer and length describe one whole slice.
         unsafe {
             sangolid_run(
@@ -42,6 +44,8 @@ impl Other for Sangolid {
                 state.len(),
                 code.as_ptr(),
                 code.len(),
+                constants.as_ptr(),
+                constants.len(),
                 area.as_mut_ptr(),
                 area.len(),
                 budget,

@@ -102,6 +102,7 @@ pub fn condition(machine: &Machine, number: u8) -> bool {
 struct Execution<'a> {
     before: Machine,
     after: Machine,
+    constants: &'a [u8],
     data: &'a mut [u8],
     width: Width,
     flags: FlagEffect,
@@ -109,10 +110,11 @@ struct Execution<'a> {
 }
 
 /// Carries out one instruction; a stop has no effect on the data.
-pub fn execute(machine: &Machine, instruction: &Instruction, data: &mut [u8]) -> Result<Step, Stop> {
+pub fn execute(machine: &Machine, instruction: &Instruction, constants: &[u8], data: &mut [u8]) -> Result<Step, Stop> {
     let mut execution = Execution {
         before: *machine,
         after: *machine,
+        constants,
         data,
         width: instruction.width,
         flags: FlagEffect::default(),
@@ -139,9 +141,9 @@ impl Execution<'_> {
         self.after.regs[usize::from(register)] = value;
     }
 
-    /// Reads data at an address.
+    /// Reads data or constants at an address.
     fn load(&self, address: u32, width: Width) -> Result<u32, Stop> {
-        read(self.data, address, width).ok_or(Stop::Read(address))
+        read(self.constants, self.data, address, width).ok_or(Stop::Read(address))
     }
 
     /// Writes data at an address.

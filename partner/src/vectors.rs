@@ -15,7 +15,7 @@ use crate::text::hex;
 pub const HEADER: &str =
     "kind\teax\tecx\tedx\tebx\tesp\tebp\tesi\tedi\teip\tflags\tbudget\tcode_len\tcode\tarea_len\tarea\
 \tnumber\tsteps\taddress\teax_out\tecx_out\tedx_out\tebx_out\tesp_out\tebp_out\tesi_out\tedi_out\teip_out\tflags_out\
-\tundefined\tarea_out";
+\tundefined\tarea_out\tconstants_len\tconstants";
 
 /// Bytes as hex without the zero bytes at their end.
 fn sparse(bytes: &[u8]) -> String {
@@ -33,6 +33,9 @@ fn machine_columns(machine: &Machine) -> String {
 /// Ten columns that a check or a hex file doesn't use.
 const NO_MACHINE: &str = "-\t-\t-\t-\t-\t-\t-\t-\t-\t-";
 
+/// Two columns that a check or a hex file doesn't use.
+const NO_CONSTANTS: &str = "-\t-";
+
 /// Where lines go, whose results they hold (none: the partner's own), and what they cover.
 struct Lines<'a, W: Write> {
     out: &'a mut W,
@@ -44,8 +47,7 @@ struct Lines<'a, W: Write> {
 fn write_run(lines: &mut Lines<impl Write>, case: &RunCase) -> io::Result<RunCase> {
     let Lines { out, other, coverage } = lines;
     let mut data = case.data.clone();
-    let mut outcome = run_observed(case.machine, &case.code, &mut data, case.budget, |seen| coverage.saw(&seen));
-    coverage.ran(&outcome, &case.code);
+    let mut outcome = coverage.run(case, &mut data);
     if let Some(other) = other {
         let theirs = other_run(case, *other);
         outcome = Outcome { undefined: outcome.undefined, ..theirs.outcome };
@@ -53,7 +55,7 @@ fn write_run(lines: &mut Lines<impl Write>, case: &RunCase) -> io::Result<RunCas
     }
     writeln!(
         out,
-        "run\t{}\t{:X}\t{:X}\t{}\t{:X}\t{}\t{:X}\t{:X}\t{:X}\t{}\t{:X}\t{}",
+        "run\t{}\t{:X}\t{:X}\t{}\t{:X}\t{}\t{:X}\t{:X}\t{:X}\t{}\t{:X}\t{}\t{:X}\t{}",
         machine_columns(&case.machine),
         case.budget,
         case.code.len(),
@@ -65,7 +67,9 @@ fn write_run(lines: &mut Lines<impl Write>, case: &RunCase) -> io::Result<RunCas
         outcome.address,
         machine_columns(&outcome.machine),
         outcome.undefined,
-        sparse(&data)
+        sparse(&data),
+        case.constants.len(),
+        sparse(&case.constants)
     )?;
     Ok(RunCase { machine: outcome.machine, data, ..case.clone() })
 }
@@ -81,7 +85,7 @@ fn write_check(lines: &mut Lines<impl Write>, case: &CheckCase) -> io::Result<()
     }
     writeln!(
         out,
-        "check\t{NO_MACHINE}\t-\t{:X}\t{}\t{:X}\t{}\t{:X}\t-\t{:X}\t{NO_MACHINE}\t-\t{}",
+        "check\t{NO_MACHINE}\t-\t{:X}\t{}\t{:X}\t{}\t{:X}\t-\t{:X}\t{NO_MACHINE}\t-\t{}\t{NO_CONSTANTS}",
         case.code.len(),
         sparse(&case.code),
         case.marks.len(),
@@ -103,7 +107,7 @@ fn write_hex(lines: &mut Lines<impl Write>, case: &HexCase) -> io::Result<()> {
     }
     writeln!(
         out,
-        "hex\t{NO_MACHINE}\t-\t{:X}\t{}\t{:X}\t{}\t{:X}\t-\t{:X}\t{NO_MACHINE}\t-\t{}",
+        "hex\t{NO_MACHINE}\t-\t{:X}\t{}\t{:X}\t{}\t{:X}\t-\t{:X}\t{NO_MACHINE}\t-\t{}\t{NO_CONSTANTS}",
         case.text.len(),
         sparse(&case.text),
         case.area.len(),
@@ -114,10 +118,11 @@ fn write_hex(lines: &mut Lines<impl Write>, case: &HexCase) -> io::Result<()> {
     )
 }
 
-/// Whether the case's first step has a shape of the groups of M-100, M-101 and M-103 that never came.
+/// Whether the case's first step has a shape of the groups of M-100, M-101, M-103 and M-104 that never came.
 fn adds(case: &RunCase, coverage: &Coverage) -> bool {
     let mut new = false;
-    run_observed(case.machine, &case.code, &mut case.data.clone(), 1, |seen| new |= coverage.is_new(&seen));
+    let RunCase { machine, code, constants, data, .. } = case;
+    run_observed(*machine, code, constants, &mut data.clone(), 1, |seen| new |= coverage.is_new(&seen));
     new
 }
 
@@ -139,6 +144,21 @@ fn write_missing(
     Ok(written)
 }
 
+/// Writes at most so many runs with numbers of constants or refusals together that never came, until none is missing,
+/// and gives back how many.
+fn write_missing_cases(lines: &mut Lines<impl Write>, most: u64, generator: &mut Generator) -> io::Result<u64> {
+    let mut written = 0;
+    while written < most && !lines.coverage.has_all_cases() {
+        for case in [generator.at_constants(), generator.refused()] {
+            if written < most && lines.coverage.is_new_case(&case) {
+                write_run(lines, &case)?;
+                written += 1;
+            }
+        }
+    }
+    Ok(written)
+}
+
 /// Writes at most so many hex files with shapes that never came, until none is missing, and gives back how many.
 fn write_missing_hex(lines: &mut Lines<impl Write>, most: u64, generator: &mut Generator) -> io::Result<u64> {
     let mut written = 0;
@@ -153,8 +173,9 @@ fn write_missing_hex(lines: &mut Lines<impl Write>, most: u64, generator: &mut G
 }
 
 /// Writes the header and so many lines, first one finished step of each form, then steps for the shapes of M-100's,
-/// M-101's and M-103's groups still missing, then hex files for the shapes of M-102's, then random cases, and gives back
-/// what they cover. With another program the results are its own, but for the undefined flags.
+/// M-101's, M-103's and M-104's groups still missing, then runs for M-104's, then hex files for the shapes of M-102's,
+/// then random cases, and gives back what they cover. With another program the results are its own, but for the
+/// undefined flags.
 pub fn write_vectors(out: &mut impl Write, other: Option<&dyn Other>, seed: u64, count: u64) -> io::Result<Coverage> {
     let mut generator = Generator::new(seed, Size::Small);
     let names: Vec<String> = generator.form_names().map(str::to_string).collect();
@@ -168,6 +189,8 @@ pub fn write_vectors(out: &mut impl Write, other: Option<&dyn Other>, seed: u64,
     written += write_missing(&mut lines, count - written, Coverage::has_all_bits, || generator.bits())?;
     written += write_missing(&mut lines, count - written, Coverage::has_all_undefined, || generator.single())?;
     written += write_missing(&mut lines, count - written, Coverage::has_all_parities, || generator.single())?;
+    written += write_missing(&mut lines, count - written, Coverage::has_all_accesses, || generator.at_constants())?;
+    written += write_missing_cases(&mut lines, count - written, &mut generator)?;
     written += write_missing_hex(&mut lines, count - written, &mut generator)?;
     while written < count {
         match generator.next_case() {

@@ -23,7 +23,7 @@ fn every_shape_of_memory_operand_finishes() {
     let mut coverage = Coverage::new(std::iter::empty());
     for _ in 0..600_000 {
         let mut case = generator.alone(64);
-        run_observed(case.machine, &case.code, &mut case.data, 1, |seen| coverage.saw(&seen));
+        run_observed(case.machine, &case.code, &case.constants, &mut case.data, 1, |seen| coverage.saw(&seen));
     }
     let report = coverage.to_string();
     for group in [

@@ -25,7 +25,7 @@ fn machine(registers: &[(usize, u32)], flags: u32) -> Machine {
 
 /// One step with the data.
 fn step(code: &[u8], registers: &[(usize, u32)], flags: u32, data: &mut [u8]) -> Outcome {
-    run(machine(registers, flags), code, data, 1)
+    run(machine(registers, flags), code, &[], data, 1)
 }
 
 /// The outcome of one step without data: registers and flags after, and the flags left undefined.

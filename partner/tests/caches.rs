@@ -46,7 +46,7 @@ impl Fault {
 
 impl Keeper {
     /// Steps until a stop or the budget's end.
-    fn steps(&self, mut machine: Machine, code: &[u8], data: &mut [u8], budget: u64) -> Ended {
+    fn steps(&self, mut machine: Machine, code: &[u8], constants: &[u8], data: &mut [u8], budget: u64) -> Ended {
         let mut kept = [self.fault.nothing(); 64];
         for steps in 0..budget {
             let slot = &mut kept[machine.eip as usize % 64];
@@ -54,7 +54,7 @@ impl Keeper {
             let fetched = found.map_or_else(|| fetch(&machine, code).map(|(fetched, _)| fetched), |(_, kept)| Ok(kept));
             let stepped = fetched.and_then(|instruction| {
                 *slot = Some((machine.eip, instruction));
-                execute(&machine, &instruction, data)
+                execute(&machine, &instruction, constants, data)
             });
             match stepped {
                 Ok(step) => machine = step.machine,
@@ -68,7 +68,9 @@ impl Keeper {
 /// What comes of comparing a keeper.
 fn compared<T>(fault: Fault, look: impl Fn(&Comparison) -> T) -> T {
     let keeper = Keeper { fault };
-    let program = Program(|machine, code: &[u8], data: &mut [u8], budget| keeper.steps(machine, code, data, budget));
+    let program = Program(|machine, code: &[u8], constants: &[u8], data: &mut [u8], budget| {
+        keeper.steps(machine, code, constants, data, budget)
+    });
     look(&compare(&program, 3, 20_000, 0))
 }
 

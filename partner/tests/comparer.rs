@@ -32,13 +32,13 @@ enum Fault {
 }
 
 impl Other for Mirror {
-    fn run(&self, state: &mut [u32], code: &[u8], area: &mut [u8], budget: u64) -> u32 {
+    fn run(&self, state: &mut [u32], code: &[u8], constants: &[u8], area: &mut [u8], budget: u64) -> u32 {
         if state.len() != STATE_WORDS {
             return if self.fault == Fault::AreaLength { 0 } else { WRONG_AREA };
         }
         let mut regs = [0; 8];
         regs.copy_from_slice(&state[..8]);
-        let outcome = run(Machine { regs, eip: state[8], flags: state[9] }, code, area, budget);
+        let outcome = run(Machine { regs, eip: state[8], flags: state[9] }, code, constants, area, budget);
         state[..8].copy_from_slice(&outcome.machine.regs);
         state[8] = outcome.machine.eip;
         state[9] = outcome.machine.flags;
@@ -94,6 +94,8 @@ fn agreement_is_found() {
         coverage.has_all_bits()
             && coverage.has_all_undefined()
             && coverage.has_all_parities()
+            && coverage.has_all_accesses()
+            && coverage.has_all_cases()
             && coverage.has_all_hex(),
         "{coverage}"
     );

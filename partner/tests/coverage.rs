@@ -9,7 +9,7 @@ fn report(code: &[u8], budgets: &[u64]) -> String {
     let mut coverage = Coverage::new(std::iter::empty());
     let mut machine = Machine { regs: [0, 3, 0, 0, 0, 0, DATA_BASE, DATA_BASE], eip: CODE_BASE, flags: ALWAYS };
     for &budget in budgets {
-        let outcome = run_observed(machine, code, &mut [0; 8], budget, |seen| coverage.saw(&seen));
+        let outcome = run_observed(machine, code, &[], &mut [0; 8], budget, |seen| coverage.saw(&seen));
         coverage.ran(&outcome, code);
         coverage.resume();
         machine = outcome.machine;
@@ -96,7 +96,7 @@ fn places_outside_the_code_are_counted() {
         for (eip, title) in [(place, "starts outside the code"), (CODE_BASE, "ways out of the code")] {
             let mut coverage = Coverage::new(std::iter::empty());
             let machine = Machine { regs: [0, 0, 0, 0, 0, 0, 0, place], eip, flags: ALWAYS };
-            let outcome = run_observed(machine, &[0xFF, 0xE7], &mut [], 2, |seen| coverage.saw(&seen));
+            let outcome = run_observed(machine, &[0xFF, 0xE7], &[], &mut [], 2, |seen| coverage.saw(&seen));
             coverage.ran(&outcome, &[0xFF, 0xE7]);
             let report = coverage.to_string();
             let line = report.lines().find(|line| line.contains(title)).expect("the group has a line");
@@ -110,7 +110,7 @@ fn places_outside_the_code_are_counted() {
 fn counts_one(code: &[u8], (ecx, edx): (u32, u32), title: &str, shape: &str) {
     let mut coverage = Coverage::new(std::iter::empty());
     let machine = Machine { regs: [0, ecx, edx, 0, 0, 0, DATA_BASE, 0], eip: CODE_BASE, flags: ALWAYS };
-    let outcome = run_observed(machine, code, &mut [0, 0, 0, 0, 0x80, 0, 0, 0], 1, |seen| coverage.saw(&seen));
+    let outcome = run_observed(machine, code, &[], &mut [0, 0, 0, 0, 0x80, 0, 0, 0], 1, |seen| coverage.saw(&seen));
     coverage.ran(&outcome, code);
     let report = coverage.to_string();
     let line = report.lines().find(|line| line.contains(title)).expect("the group has a line");

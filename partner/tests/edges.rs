@@ -19,7 +19,7 @@ fn machine(registers: &[(usize, u32)], flags: u32) -> Machine {
 
 /// One step without data.
 fn one_step(code: &[u8], machine: Machine) -> Outcome {
-    run(machine, code, &mut [], 1)
+    run(machine, code, &[], &mut [], 1)
 }
 
 #[test]
@@ -93,10 +93,10 @@ fn copying() -> Machine {
 fn case_10_repeated_moves_stopped_and_resumed() {
     let mut data: Vec<u8> = (0..512).map(|place| place as u8).collect();
     let whole = data[..100].to_vec();
-    let first = run(copying(), &[0xF3, 0xA5], &mut data, 10);
+    let first = run(copying(), &[0xF3, 0xA5], &[], &mut data, 10);
     assert_eq!((first.number, first.machine.eip, first.machine.regs[1]), (0, CODE_BASE, 15));
     assert_eq!(first.machine.regs[6], 0x0010_0028);
-    let second = run(first.machine, &[0xF3, 0xA5], &mut data, 15);
+    let second = run(first.machine, &[0xF3, 0xA5], &[], &mut data, 15);
     assert_eq!((second.number, second.machine.eip, second.machine.regs[1]), (0, CODE_BASE + 2, 0));
     assert_eq!(second.machine.regs[7], 0x0010_0164);
     assert_eq!(data[0x100..0x164], whole);
@@ -105,7 +105,7 @@ fn case_10_repeated_moves_stopped_and_resumed() {
 #[test]
 fn case_11_repeated_moves_past_the_data() {
     let mut data = vec![1; 352];
-    let outcome = run(copying(), &[0xF3, 0xA5], &mut data, 100);
+    let outcome = run(copying(), &[0xF3, 0xA5], &[], &mut data, 100);
     assert_eq!((outcome.steps, outcome.number, outcome.address), (24, 6, 0x0010_0160));
     assert_eq!(outcome.machine.regs[1], 1);
 }
@@ -113,9 +113,9 @@ fn case_11_repeated_moves_past_the_data() {
 #[test]
 fn case_12_reads_at_the_data_s_end() {
     let mut data = [1, 2, 3, 4, 5, 6, 7, 8];
-    let inside = run(machine(&[(6, 0x0010_0004)], 2), &[0x8B, 0x06], &mut data, 1);
+    let inside = run(machine(&[(6, 0x0010_0004)], 2), &[0x8B, 0x06], &[], &mut data, 1);
     assert_eq!((inside.number, inside.machine.regs[0]), (0, 0x0807_0605));
-    let across = run(machine(&[(6, 0x0010_0005)], 2), &[0x8B, 0x06], &mut data, 1);
+    let across = run(machine(&[(6, 0x0010_0005)], 2), &[0x8B, 0x06], &[], &mut data, 1);
     assert_eq!((across.number, across.address, across.steps), (5, 0x0010_0005, 0));
 }
 

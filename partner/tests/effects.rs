@@ -25,7 +25,7 @@ fn machine(registers: &[(usize, u32)], flags: u32) -> Machine {
 
 /// One step with the data.
 fn step(code: &[u8], machine: Machine, data: &mut [u8]) -> Outcome {
-    run(machine, code, data, 1)
+    run(machine, code, &[], data, 1)
 }
 
 /// A shift of AL by an immediate count: reg field 0 ROL, 1 ROR, 2 RCL, 3 RCR, 4 SHL, 5 SHR, 7 SAR.
@@ -39,13 +39,13 @@ fn refusals_come_in_order_and_change_nothing() {
     let (long, budget) = (vec![0x90; 65_537], 1_000_001);
     let mut data = vec![9; 65_537];
     for code in [&[][..], &long] {
-        let outcome = run(bad, code, &mut data, budget);
+        let outcome = run(bad, code, &[], &mut data, budget);
         assert_eq!(outcome, Outcome { machine: bad, steps: 0, number: 10, address: 0, undefined: 0 });
     }
-    assert_eq!(run(bad, &[0x90], &mut data, budget).number, 11);
-    assert_eq!(run(bad, &[0x90], &mut data[..65_536], budget).number, 12);
-    assert_eq!(run(machine(&[], 0), &[0x90], &mut data[..65_536], budget).number, 13);
-    assert_eq!(run(machine(&[], 0), &long[..65_536], &mut data[..65_536], 1_000_000).steps, 65_536);
+    assert_eq!(run(bad, &[0x90], &[], &mut data, budget).number, 11);
+    assert_eq!(run(bad, &[0x90], &[], &mut data[..65_536], budget).number, 12);
+    assert_eq!(run(machine(&[], 0), &[0x90], &[], &mut data[..65_536], budget).number, 13);
+    assert_eq!(run(machine(&[], 0), &long[..65_536], &[], &mut data[..65_536], 1_000_000).steps, 65_536);
     assert!(data.iter().all(|&byte| byte == 9));
 }
 
@@ -53,7 +53,7 @@ fn refusals_come_in_order_and_change_nothing() {
 fn flags_words_with_unknown_bits_are_refused() {
     for bit in 0..32 {
         let flags = 2 | 1 << bit;
-        let outcome = run(Machine { flags, ..machine(&[], 0) }, &[0x90], &mut [], 1);
+        let outcome = run(Machine { flags, ..machine(&[], 0) }, &[0x90], &[], &mut [], 1);
         assert_eq!(outcome.number == 12, 0x0CD7 & (1u32 << bit) == 0, "bit {bit}");
     }
     assert_eq!(KNOWN, 0x0CD7);
@@ -62,16 +62,16 @@ fn flags_words_with_unknown_bits_are_refused() {
 #[test]
 fn budget_zero_gives_zero_even_at_home() {
     let home = Machine { eip: HOME, ..machine(&[], 0) };
-    let none = run(home, &[0x90], &mut [], 0);
+    let none = run(home, &[0x90], &[], &mut [], 0);
     assert_eq!((none.number, none.address, none.steps), (0, HOME, 0));
-    let one = run(home, &[0x90], &mut [], 1);
+    let one = run(home, &[0x90], &[], &mut [], 1);
     assert_eq!((one.number, one.address, one.steps), (1, HOME, 0));
 }
 
 #[test]
 fn eip_outside_the_code() {
     for eip in [CODE_BASE - 1, CODE_BASE + 1, 0, 0xFFFF_FFFF, HOME - 1, HOME + 1, DATA_BASE] {
-        let outcome = run(Machine { eip, ..machine(&[], 0) }, &[0x90], &mut [0; 16], 1);
+        let outcome = run(Machine { eip, ..machine(&[], 0) }, &[0x90], &[], &mut [0; 16], 1);
         assert_eq!((outcome.number, outcome.address), (2, eip));
     }
 }
@@ -104,7 +104,7 @@ fn undefined_flags_are_cleared_and_reported() {
 #[test]
 fn a_flag_written_again_is_defined_again() {
     // MUL ECX, then ADD EAX, EAX.
-    let outcome = run(machine(&[(ECX, 3)], 0), &[0xF7, 0xE1, 0x01, 0xC0], &mut [], 2);
+    let outcome = run(machine(&[(ECX, 3)], 0), &[0xF7, 0xE1, 0x01, 0xC0], &[], &mut [], 2);
     assert_eq!((outcome.steps, outcome.undefined), (2, 0));
 }
 
@@ -327,7 +327,7 @@ fn repeated_instructions_take_one_step_a_round() {
     for code in [&[0xF3, 0xA4][..], &[0xF3, 0xAA], &[0xF3, 0xAC]] {
         for count in [1, 2, 7] {
             let before = machine(&[(ECX, count), (ESI, DATA_BASE), (EDI, DATA_BASE + 8)], 0);
-            let outcome = run(before, code, &mut [5; 16], 100);
+            let outcome = run(before, code, &[], &mut [5; 16], 100);
             assert_eq!((outcome.steps, outcome.number, outcome.machine.regs[ECX]), (u64::from(count), 2, 0));
         }
     }
@@ -338,15 +338,15 @@ fn repeated_comparisons_end_by_zf() {
     let mut data = [1, 2, 3, 4, 1, 2, 9, 4];
     let before = machine(&[(ECX, 4), (ESI, DATA_BASE), (EDI, DATA_BASE + 4)], 0);
     // REPE CMPSB ends after the third byte.
-    let same = run(before, &[0xF3, 0xA6], &mut data, 10);
+    let same = run(before, &[0xF3, 0xA6], &[], &mut data, 10);
     assert_eq!((same.steps, same.machine.regs[ECX], same.machine.regs[ESI]), (3, 1, DATA_BASE + 3));
     assert_eq!((same.number, same.machine.eip), (2, CODE_BASE + 2));
     // REPNE CMPSB ends after the first.
-    let other = run(before, &[0xF2, 0xA6], &mut data, 10);
+    let other = run(before, &[0xF2, 0xA6], &[], &mut data, 10);
     assert_eq!((other.steps, other.machine.regs[ECX]), (1, 3));
     // REPNE SCASB downward finds the 2 at offset 1.
     let scan = machine(&[(EAX, 2), (ECX, 9), (EDI, DATA_BASE + 3)], DF);
-    let found = run(scan, &[0xF2, 0xAE], &mut data, 10);
+    let found = run(scan, &[0xF2, 0xAE], &[], &mut data, 10);
     assert_eq!((found.steps, found.machine.regs[EDI], found.machine.regs[ECX]), (3, DATA_BASE, 6));
 }
 
@@ -354,7 +354,7 @@ fn repeated_comparisons_end_by_zf() {
 fn a_round_that_faults_keeps_ecx() {
     let mut data = [7; 8];
     // REP STOSD with the second round past the data.
-    let outcome = run(machine(&[(ECX, 3), (EDI, DATA_BASE + 4)], 0), &[0xF3, 0xAB], &mut data, 10);
+    let outcome = run(machine(&[(ECX, 3), (EDI, DATA_BASE + 4)], 0), &[0xF3, 0xAB], &[], &mut data, 10);
     assert_eq!((outcome.steps, outcome.number, outcome.address), (1, 6, DATA_BASE + 8));
     assert_eq!((outcome.machine.regs[ECX], outcome.machine.eip), (2, CODE_BASE));
 }
@@ -384,9 +384,9 @@ fn runs_of_n_and_m_make_one_of_both() {
         let Case::Resume(case, more) = generator.next_case() else { continue };
         resumed += 1;
         let (mut data, mut together) = (case.data.clone(), case.data.clone());
-        let first = run(case.machine, &case.code, &mut data, case.budget);
-        let second = run(first.machine, &case.code, &mut data, more);
-        let both = run(case.machine, &case.code, &mut together, case.budget + more);
+        let first = run(case.machine, &case.code, &case.constants, &mut data, case.budget);
+        let second = run(first.machine, &case.code, &case.constants, &mut data, more);
+        let both = run(case.machine, &case.code, &case.constants, &mut together, case.budget + more);
         assert_eq!((second.machine, first.steps + second.steps, &data), (both.machine, both.steps, &together));
         if more > 0 {
             assert_eq!((second.number, second.address), (both.number, both.address));

@@ -22,7 +22,7 @@ fn counts(title: &str, code: &[u8], ecx: u32, flags: u32, operation: &str, shape
     let mut coverage = Coverage::new(std::iter::empty());
     let all = holes(&coverage, title);
     let machine = Machine { regs: [7, ecx, 0, 0, 0, 0, 0, 0], eip: CODE_BASE, flags: ALWAYS | flags };
-    run_observed(machine, code, &mut [], 1, |seen| {
+    run_observed(machine, code, &[], &mut [], 1, |seen| {
         assert!(coverage.is_new(&seen) || shapes.is_empty());
         coverage.saw(&seen);
         assert!(!coverage.is_new(&seen));

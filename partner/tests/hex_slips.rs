@@ -54,7 +54,7 @@ impl Reader {
 }
 
 impl Other for Reader {
-    fn run(&self, _: &mut [u32], _: &[u8], _: &mut [u8], _: u64) -> u32 {
+    fn run(&self, _: &mut [u32], _: &[u8], _: &[u8], _: &mut [u8], _: u64) -> u32 {
         unreachable!("only hex files are compared")
     }
 

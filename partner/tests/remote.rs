@@ -9,10 +9,10 @@ use partner::remote::Remote;
 /// Functions in Sangolid's place, which put what they were given into what they give back.
 const ECHO: &str = "
 #include \"sangolid.h\"
-uint32_t sangolid_run(uint32_t *state, size_t state_len, const uint8_t *code, size_t code_len, uint8_t *area,
-                      size_t area_len, uint64_t budget) {
+uint32_t sangolid_run(uint32_t *state, size_t state_len, const uint8_t *code, size_t code_len, const uint8_t *constants,
+                      size_t constants_len, uint8_t *area, size_t area_len, uint64_t budget) {
     for (size_t i = 0; i < state_len; i++) state[i] += 1;
-    for (size_t i = 0; i < area_len; i++) area[i] ^= code[i % code_len];
+    for (size_t i = 0; i < area_len; i++) area[i] ^= code[i % code_len] ^ constants[i % constants_len];
     return (uint32_t)(budget >> 32) + (uint32_t)budget + (uint32_t)code_len;
 }
 uint32_t sangolid_check(const uint8_t *code, size_t code_len, uint8_t *marks, size_t marks_len, uint32_t *answer,
@@ -46,10 +46,12 @@ fn areas_go_there_and_back() {
     let mut state: Vec<u32> = (0..12).map(|i| 0xFFFF_FFFC + i / 4).collect();
     let mut area: Vec<u8> = (0..100_000).map(|i| (i / 7) as u8).collect();
     let code: Vec<u8> = (0..65_537).map(|i| (i / 3) as u8).collect();
-    let number = echo.run(&mut state, &code, &mut area, (3 << 32) + 4);
+    let constants: Vec<u8> = (0..65_540).map(|i| (i / 5) as u8).collect();
+    let number = echo.run(&mut state, &code, &constants, &mut area, (3 << 32) + 4);
     assert_eq!(number, 3 + 4 + 65_537);
     assert_eq!(state, (0..12).map(|i| 0xFFFF_FFFD_u32.wrapping_add(i / 4)).collect::<Vec<_>>());
-    let expected: Vec<u8> = (0..100_000).map(|i| (i / 7) as u8 ^ ((i % 65_537) / 3) as u8).collect();
+    let mixed = |i| (i / 7) as u8 ^ ((i % 65_537) / 3) as u8 ^ ((i % 65_540) / 5) as u8;
+    let expected: Vec<u8> = (0..100_000).map(mixed).collect();
     assert!(area == expected);
 
     let (mut marks, mut answer) = (vec![1, 2, 255], [0]);
@@ -60,7 +62,7 @@ fn areas_go_there_and_back() {
     assert_eq!(echo.hex(b"123456\x08", &mut code, &mut answer), 0xFFFF_FFFD);
     assert_eq!((code, answer), (vec![255, 0], [6, 7]));
 
-    assert_eq!(echo.run(&mut [], &[], &mut [], 9), 9);
+    assert_eq!(echo.run(&mut [], &[], &[], &mut [], 9), 9);
     assert_eq!(echo.check(&[], &mut [], &mut []), 0xFFFF_FFFE);
     assert_eq!(echo.hex(&[], &mut [], &mut []), 0xFFFF_FFFD);
 }

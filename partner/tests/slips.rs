@@ -15,12 +15,20 @@ type Slip = fn(&Machine, Width, Operation) -> Operation;
 type FlagSlip = fn(&Machine, &Instruction, &Step) -> u32;
 
 /// Carries out one instruction.
-type CarryOut = dyn Fn(&Machine, &Instruction, &mut [u8]) -> Result<Step, Stop>;
+type CarryOut = dyn Fn(&Machine, &Instruction, &[u8], &mut [u8]) -> Result<Step, Stop>;
 
 /// Steps of instructions so carried out.
-fn steps(carry_out: &CarryOut, mut machine: Machine, code: &[u8], data: &mut [u8], budget: u64) -> Ended {
+fn steps(
+    carry_out: &CarryOut,
+    mut machine: Machine,
+    code: &[u8],
+    constants: &[u8],
+    data: &mut [u8],
+    budget: u64,
+) -> Ended {
     for steps in 0..budget {
-        let stepped = fetch(&machine, code).and_then(|(instruction, _)| carry_out(&machine, &instruction, data));
+        let stepped =
+            fetch(&machine, code).and_then(|(instruction, _)| carry_out(&machine, &instruction, constants, data));
         match stepped {
             Ok(step) => machine = step.machine,
             Err(stop) => return (machine, steps, stop.number(), stop.address(machine.eip)),
@@ -31,25 +39,26 @@ fn steps(carry_out: &CarryOut, mut machine: Machine, code: &[u8], data: &mut [u8
 
 /// Defined and policy disagreements with a program that carries out instructions so, in 5,000 cases.
 fn disagreements(carry_out: &CarryOut) -> (u64, u64) {
-    let program =
-        Program(|machine, code: &[u8], data: &mut [u8], budget| steps(carry_out, machine, code, data, budget));
+    let program = Program(|machine, code: &[u8], constants: &[u8], data: &mut [u8], budget| {
+        steps(carry_out, machine, code, constants, data, budget)
+    });
     let comparison = compare(&program, 3, 5_000, 0);
     (comparison.defined, comparison.policy)
 }
 
 /// The slip is found at least five times.
 fn is_found(slip: Slip) {
-    let (found, _) = disagreements(&move |machine, instruction, data| {
+    let (found, _) = disagreements(&move |machine, instruction, constants, data| {
         let operation = slip(machine, instruction.width, instruction.operation);
-        execute(machine, &Instruction { operation, ..*instruction }, data)
+        execute(machine, &Instruction { operation, ..*instruction }, constants, data)
     });
     assert!(found >= 5, "{found}");
 }
 
 /// Defined and policy disagreements with a program that slips in flags.
 fn flag_disagreements(slip: FlagSlip) -> (u64, u64) {
-    disagreements(&move |machine, instruction, data| {
-        let mut step = execute(machine, instruction, data)?;
+    disagreements(&move |machine, instruction, constants, data| {
+        let mut step = execute(machine, instruction, constants, data)?;
         step.machine.flags = slip(machine, instruction, &step);
         Ok(step)
     })

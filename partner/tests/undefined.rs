@@ -31,7 +31,7 @@ fn step(code: &[u8], registers: &[(usize, u32)], flags: u32, data: &mut [u8]) ->
     for &(number, value) in registers {
         regs[number] = value;
     }
-    run(Machine { regs, eip: CODE_BASE, flags }, code, data, 1)
+    run(Machine { regs, eip: CODE_BASE, flags }, code, &[], data, 1)
 }
 
 /// From every flags word the step leaves `alone` and DF as they were, gives all other flags these values, and tells
@@ -286,7 +286,7 @@ fn blocks_that_differ_only_in_order_end_with_equal_flags() {
     let mut regs = [0; 8];
     (regs[EAX], regs[ECX], regs[EBX], regs[ESI]) = (7, 3, 0xC000_0000, 9);
     let start = Machine { regs, eip: CODE_BASE, flags: 2 };
-    let ends = [[add, sub, div], [sub, add, div]].map(|parts| run(start, &parts.concat(), &mut [], 3).machine);
+    let ends = [[add, sub, div], [sub, add, div]].map(|parts| run(start, &parts.concat(), &[], &mut [], 3).machine);
     assert_eq!((ends[0], ends[0].flags), (ends[1], 2));
 }
 
@@ -296,7 +296,7 @@ fn undefined_flags_are_clear_at_the_end_of_every_run() {
     let mut left = 0;
     for _ in 0..20_000 {
         let Case::Run(mut case) = generator.next_case() else { continue };
-        let outcome = run(case.machine, &case.code, &mut case.data, case.budget);
+        let outcome = run(case.machine, &case.code, &case.constants, &mut case.data, case.budget);
         assert_eq!(outcome.machine.flags & outcome.undefined, 0);
         left |= outcome.undefined;
     }

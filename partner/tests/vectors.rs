@@ -11,6 +11,8 @@ fn lines_have_the_header_s_columns_and_cover_everything() {
         coverage.has_all_bits()
             && coverage.has_all_undefined()
             && coverage.has_all_parities()
+            && coverage.has_all_accesses()
+            && coverage.has_all_cases()
             && coverage.has_all_hex(),
         "{coverage}"
     );
@@ -21,7 +23,30 @@ fn lines_have_the_header_s_columns_and_cover_everything() {
         assert_eq!(line.split('\t').count(), columns);
         assert!(line.split('\t').all(|field| !field.is_empty()));
     }
-    assert!(text.len() < 1_000_000);
+    assert!(text.len() < 1_100_000);
+}
+
+#[test]
+fn constants_stand_at_the_end_of_a_run_s_line() {
+    let mut out = Vec::new();
+    let coverage = write_vectors(&mut out, None, 1999, 3000).expect("writing to memory succeeds");
+    assert!(coverage.has_all_accesses() && coverage.has_all_cases(), "{coverage}");
+    assert_eq!(coverage.holes(), Vec::<String>::new());
+    assert!(HEADER.ends_with("\tarea_out\tconstants_len\tconstants"));
+    let text = String::from_utf8(out).expect("the lines are text");
+    let lines: Vec<Vec<&str>> = text.lines().skip(1).map(|line| line.split('\t').collect()).collect();
+    let (runs, others): (Vec<_>, Vec<_>) = lines.iter().partition(|fields| fields[0] == "run");
+    assert!(others.iter().all(|fields| fields[31..] == ["-", "-"]));
+    for fields in &runs {
+        let length = usize::from_str_radix(fields[31], 16).expect("the length is hex");
+        assert!(length <= 65_540);
+        // Zero bytes at the end are left out.
+        assert!(fields[32] == "-" || fields[32].len() <= 2 * length.min(64) && !fields[32].ends_with("00"));
+        assert_eq!(fields[16] == "F", length > 65_536 && !["A", "B"].contains(&fields[16]), "{fields:?}");
+    }
+    for length in ["0", "1", "FFFF", "10000", "10001"] {
+        assert!(runs.iter().any(|fields| fields[31] == length), "{length}");
+    }
 }
 
 #[test]
@@ -41,7 +66,7 @@ fn hex_files_are_about_one_line_in_six_and_give_every_number() {
         assert!(files.iter().filter(accepted).any(|fields| fields[13].ends_with(end)));
     }
     for fields in files {
-        let unused = (1..12).chain([17]).chain(19..30);
+        let unused = (1..12).chain([17]).chain(19..30).chain([31, 32]);
         assert!(unused.into_iter().all(|field| fields[field] == "-"), "{fields:?}");
     }
 }

@@ -7,7 +7,7 @@ use std::process::ExitCode;
 
 use partner::cases::{Generator, RunCase, Size};
 use partner::decode::Operand;
-use partner::machine::{Machine, Width, CODE_BASE, DATA_BASE, KNOWN};
+use partner::machine::{Machine, Width, CODE_BASE, CONSTANTS_BASE, DATA_BASE, KNOWN};
 use partner::step::{effective_address, execute, fetch, Stop};
 use partner::text::{describe, form, hex, machine_text};
 
@@ -49,6 +49,7 @@ const HOOK_INTERRUPT: c_int = 1;
 const NO_INTERRUPT: u32 = u32::MAX;
 /// The divide error's vector (003, table 3-2).
 const DIVIDE_ERROR: u32 = 0;
+const READ: u32 = 1;
 const READ_WRITE: u32 = 3;
 const EXECUTE: u32 = 4;
 /// Unicorn's numbers of EAX, ECX, EDX, EBX, ESP, EBP, ESI, EDI, EIP, EFLAGS.
@@ -59,7 +60,7 @@ const CODE_BYTES: usize = 65_536;
 const SLOT: usize = 16;
 /// Fills the rest of each slot and ends what Unicorn translates at once.
 const RET: u8 = 0xC3;
-/// One page of data.
+/// One page of data, and one of constants, which Unicorn can only read.
 const DATA_BYTES: usize = 4096;
 
 /// How one instruction ended.
@@ -80,7 +81,7 @@ struct Result {
     data: Vec<u8>,
 }
 
-/// One engine with code and data mapped.
+/// One engine with code, data and constants mapped.
 struct Engine {
     engine: *mut c_void,
     /// The last interrupt's vector.
@@ -98,6 +99,7 @@ impl Engine {
             assert_eq!(uc_open(ARCHITECTURE_X86, MODE_32, &mut engine), 0);
             assert_eq!(uc_mem_map(engine, u64::from(CODE_BASE), CODE_BYTES, EXECUTE), 0);
             assert_eq!(uc_mem_map(engine, u64::from(DATA_BASE), DATA_BYTES, READ_WRITE), 0);
+            assert_eq!(uc_mem_map(engine, u64::from(CONSTANTS_BASE), DATA_BYTES, READ), 0);
             assert_eq!(uc_mem_write(engine, u64::from(CODE_BASE), code.as_ptr().cast(), code.len()), 0);
             let (callback, noted) = (on_interrupt as *mut c_void, interrupt.get().cast());
             assert_eq!(uc_hook_add(engine, &mut hook, HOOK_INTERRUPT, callback, noted, 1, 0), 0);
@@ -120,6 +122,7 @@ impl Engine {
         let (error, interrupt) = unsafe {
             *self.interrupt.get() = NO_INTERRUPT;
             uc_mem_write(self.engine, u64::from(DATA_BASE), case.data.as_ptr().cast(), DATA_BYTES);
+            uc_mem_write(self.engine, u64::from(CONSTANTS_BASE), case.constants.as_ptr().cast(), DATA_BYTES);
             for (register, word) in REGISTERS.iter().zip(&words) {
                 uc_reg_write(self.engine, *register, std::ptr::from_ref(word).cast());
             }
@@ -172,7 +175,7 @@ fn partner_run(case: &RunCase, code: &[u8]) -> Ours {
     let mut machine = case.machine;
     let end = loop {
         let (instruction, _) = fetch(&machine, code).expect("every slot holds an instruction");
-        match execute(&machine, &instruction, &mut data) {
+        match execute(&machine, &instruction, &case.constants, &mut data) {
             Err(Stop::Read(address)) => {
                 refused = Some(address);
                 break End::Read;

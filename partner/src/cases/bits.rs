@@ -1,6 +1,6 @@
 //! Bit tests, scans, double shifts and conditional moves: offsets, sources and counts.
 
-use super::{give, Generator, RunCase};
+use super::{give, Areas, Generator, RunCase};
 use crate::arithmetic::bit_place;
 use crate::decode::{Instruction, Operand, Operation};
 use crate::machine::{Machine, Width, ECX};
@@ -49,7 +49,7 @@ impl Generator {
     }
 
     /// Gives a scan a source with no bit, one bit or few bits.
-    pub(super) fn aim_scan(&mut self, source: &Operand, width: Width, machine: &mut Machine, data: &mut [u8]) {
+    pub(super) fn aim_scan(&mut self, source: &Operand, width: Width, machine: &mut Machine, areas: &mut Areas) {
         let bit = 1 << self.random.below(width.bits() as usize);
         let value = match self.random.below(6) {
             0 | 1 => 0,
@@ -58,7 +58,7 @@ impl Generator {
             4 => bit,
             _ => bit | 1 << self.random.below(width.bits() as usize),
         };
-        give(source, width, value, machine, data);
+        give(source, width, value, machine, areas);
     }
 
     /// Gives a double shift a count around 0, its width or 32.

@@ -36,7 +36,7 @@ impl Generator {
                 continue;
             }
             let mut trial = self.with_stack(bytes, length);
-            let outcome = run(trial.machine, &trial.code, &mut trial.data, 1);
+            let outcome = run(trial.machine, &trial.code, &trial.constants, &mut trial.data, 1);
             let kept = [ECX, ESP].map(usize::from).iter().all(|&at| outcome.machine.regs[at] == trial.machine.regs[at]);
             if kept && outcome.steps == 1 && outcome.machine.eip == CODE_BASE + trial.code.len() as u32 {
                 return trial.code;

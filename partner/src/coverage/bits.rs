@@ -25,14 +25,14 @@ const INDEXES: [&str; 4] = ["none", "0", "between", "top"];
 const COUNTS: [&str; 8] = ["16 by 0", "16 by 1", "16 below", "16 at", "16 over", "32 by 0", "32 by 1", "32 below"];
 
 /// A group whose shapes are all combinations of one word of each axis.
-struct Grid {
+pub(super) struct Grid {
     axes: &'static [&'static [&'static str]],
-    group: Group,
+    pub(super) group: Group,
 }
 
 impl Grid {
     /// Nothing counted yet.
-    fn new(title: &str, axes: &'static [&'static [&'static str]]) -> Self {
+    pub(super) fn new(title: &str, axes: &'static [&'static [&'static str]]) -> Self {
         let shapes = axes.iter().fold(vec![String::new()], |shapes, axis| {
             shapes.iter().flat_map(|shape| axis.iter().map(move |word| format!("{shape} {word}"))).collect()
         });
@@ -41,7 +41,7 @@ impl Grid {
     }
 
     /// The place of the combination with these places on the axes.
-    fn place(&self, places: &[usize]) -> usize {
+    pub(super) fn place(&self, places: &[usize]) -> usize {
         self.axes.iter().zip(places).fold(0, |place, (axis, at)| place * axis.len() + at)
     }
 }

@@ -3,27 +3,26 @@
 use partner::check::check;
 use partner::compare::{Other, ANSWER_WORDS, STATE_WORDS, WRONG_AREA};
 use partner::hex::read;
-use partner::machine::{Machine, MAX_BUDGET};
-use partner::run::run;
+use partner::machine::Machine;
+use partner::run::refusals;
 
 /// How steps ended: machine, steps, number and address.
 pub type Ended = (Machine, u64, u32, u32);
 
 /// Takes steps from the machine until a stop or the budget's end; all else is the partner's.
-pub struct Program<F: Fn(Machine, &[u8], &mut [u8], u64) -> Ended>(pub F);
+pub struct Program<F: Fn(Machine, &[u8], &[u8], &mut [u8], u64) -> Ended>(pub F);
 
-impl<F: Fn(Machine, &[u8], &mut [u8], u64) -> Ended> Other for Program<F> {
-    fn run(&self, state: &mut [u32], code: &[u8], area: &mut [u8], budget: u64) -> u32 {
+impl<F: Fn(Machine, &[u8], &[u8], &mut [u8], u64) -> Ended> Other for Program<F> {
+    fn run(&self, state: &mut [u32], code: &[u8], constants: &[u8], area: &mut [u8], budget: u64) -> u32 {
         if state.len() != STATE_WORDS {
             return WRONG_AREA;
         }
         let mut regs = [0; 8];
         regs.copy_from_slice(&state[..8]);
         let machine = Machine { regs, eip: state[8], flags: state[9] };
-        let refused = run(machine, code, area, if budget > MAX_BUDGET { budget } else { 0 }).number;
-        let (machine, steps, number, address) = match refused {
-            0 => (self.0)(machine, code, area, budget),
-            _ => (machine, 0, refused, 0),
+        let (machine, steps, number, address) = match refusals(&machine, code, constants, area, budget)[..] {
+            [] => (self.0)(machine, code, constants, area, budget),
+            [first, ..] => (machine, 0, first, 0),
         };
         state[..8].copy_from_slice(&machine.regs);
         state[8..].copy_from_slice(&[machine.eip, machine.flags, steps as u32, address]);

@@ -1,0 +1,363 @@
+//! A program that slips in reads of constants, in writes to them or in number 15 is found out.
+
+mod common;
+
+use std::cell::RefCell;
+use std::collections::BTreeMap;
+
+use common::{Ended, Program};
+use partner::cases::{Case, Generator, Size};
+use partner::compare::{compare, Comparison, Other, STATE_WORDS};
+use partner::decode::{Instruction, Operation, Text};
+use partner::machine::{place, FlagEffect, Machine, Width, CONSTANTS_BASE, DATA_BASE, MAX_BYTES};
+use partner::run::refusals;
+use partner::step::{execute, fetch, Step, Stop};
+
+/// Carries out one instruction.
+type CarryOut = dyn Fn(&Machine, &Instruction, &[u8], &mut [u8]) -> Result<Step, Stop>;
+
+/// The number that refuses a run, of all that apply in their order, with so many constants.
+type Refuse = fn(&[u32], usize) -> Option<u32>;
+
+/// Steps of instructions so carried out.
+fn steps(
+    carry_out: &CarryOut,
+    mut machine: Machine,
+    code: &[u8],
+    constants: &[u8],
+    data: &mut [u8],
+    budget: u64,
+) -> Ended {
+    for steps in 0..budget {
+        let stepped =
+            fetch(&machine, code).and_then(|(instruction, _)| carry_out(&machine, &instruction, constants, data));
+        match stepped {
+            Ok(step) => machine = step.machine,
+            Err(stop) => return (machine, steps, stop.number(), stop.address(machine.eip)),
+        }
+    }
+    (machine, budget, 0, machine.eip)
+}
+
+/// A program that carries out instructions so.
+fn program(carry_out: &CarryOut) -> impl Other + '_ {
+    Program(move |machine, code: &[u8], constants: &[u8], data: &mut [u8], budget| {
+        steps(carry_out, machine, code, constants, data, budget)
+    })
+}
+
+/// Disagreements with the other program in 5,000 cases.
+fn disagreements(other: &dyn Other) -> u64 {
+    let comparison = compare(other, 3, 5_000, 0);
+    assert_eq!(comparison.policy, 0);
+    comparison.defined
+}
+
+/// The slip is found at least five times.
+fn is_found(slip: &CarryOut) {
+    let found = disagreements(&program(slip));
+    assert!(found >= 5, "{found}");
+}
+
+/// Disagreements with the other program in 5,000 runs around constants, each beside a refused one if asked for.
+fn disagreements_at_constants(other: &dyn Other, refused: bool) -> u64 {
+    let mut generator = Generator::new(3, Size::Large);
+    let mut comparison = Comparison::new(other, std::iter::empty(), 0);
+    for _ in 0..5_000 {
+        comparison.case(&Case::Run(generator.at_constants()));
+        if refused {
+            comparison.case(&Case::Run(generator.refused()));
+        }
+    }
+    comparison.defined
+}
+
+/// The slip is found at least five times in runs around constants.
+fn is_found_at_constants(slip: &CarryOut) {
+    let found = disagreements_at_constants(&program(slip), false);
+    assert!(found >= 5, "{found}");
+}
+
+/// Whether the byte at the address is one of the constants.
+fn is_constant(address: u32, constants: &[u8]) -> bool {
+    place(CONSTANTS_BASE, constants.len(), address, Width::Byte).is_some()
+}
+
+/// The constants with zero bytes behind them, so many in all.
+fn longer(constants: &[u8], length: usize) -> Vec<u8> {
+    let mut longer = constants.to_vec();
+    longer.resize(length.max(constants.len()), 0);
+    longer
+}
+
+/// Carries out an instruction as if one area reached from the first byte of data to the last constant.
+fn execute_in_one_area(
+    machine: &Machine,
+    instruction: &Instruction,
+    constants: &[u8],
+    data: &mut [u8],
+) -> Result<Step, Stop> {
+    let mut whole = longer(data, (CONSTANTS_BASE - DATA_BASE) as usize);
+    whole.extend(constants);
+    let stepped = execute(machine, instruction, &[], &mut whole);
+    data.copy_from_slice(&whole[..data.len()]);
+    stepped
+}
+
+#[test]
+fn no_slip_agrees() {
+    assert_eq!(disagreements(&program(&execute)), 0);
+}
+
+#[test]
+fn a_read_across_the_last_constant_is_found() {
+    is_found(&|machine, instruction, constants, data| match execute(machine, instruction, constants, data) {
+        Err(Stop::Read(address)) if is_constant(address, constants) => {
+            execute(machine, instruction, &longer(constants, constants.len() + 3), data)
+        }
+        stepped => stepped,
+    });
+}
+
+#[test]
+fn a_read_across_the_first_constant_is_found() {
+    is_found(&|machine, instruction, constants, data| match execute(machine, instruction, constants, data) {
+        Err(Stop::Read(address))
+            if address < CONSTANTS_BASE && is_constant(address + instruction.width.bytes() - 1, constants) =>
+        {
+            execute_in_one_area(machine, instruction, constants, data)
+        }
+        stepped => stepped,
+    });
+}
+
+#[test]
+fn one_constant_too_many_or_too_few_is_found() {
+    is_found(&|machine, instruction, constants, data| {
+        execute(machine, instruction, &longer(constants, constants.len() + 1), data)
+    });
+    is_found(&|machine, instruction, constants, data| {
+        execute(machine, instruction, &constants[..constants.len().saturating_sub(1)], data)
+    });
+}
+
+#[test]
+fn a_write_let_into_constants_is_found() {
+    is_found(&|machine, instruction, constants, data| match execute(machine, instruction, constants, data) {
+        Err(Stop::Write(address)) if is_constant(address, constants) => {
+            execute_in_one_area(machine, instruction, constants, data)
+        }
+        stepped => stepped,
+    });
+}
+
+#[test]
+fn a_destination_in_constants_that_gives_5_is_found() {
+    is_found(&|machine, instruction, constants, data| match execute(machine, instruction, constants, data) {
+        Err(Stop::Write(address)) if is_constant(address, constants) => Err(Stop::Read(address)),
+        stepped => stepped,
+    });
+}
+
+#[test]
+fn a_changed_operand_in_constants_that_gives_5_is_found() {
+    is_found(&|machine, instruction, constants, data| match execute(machine, instruction, constants, data) {
+        // Without constants its read isn't allowed.
+        Err(Stop::Write(_)) => execute(machine, instruction, &[], data),
+        stepped => stepped,
+    });
+}
+
+#[test]
+fn a_changed_operand_across_the_last_constant_that_gives_6_is_found() {
+    is_found_at_constants(
+        &|machine, instruction, constants, data| match execute(machine, instruction, constants, data) {
+            Err(Stop::Read(address)) if is_constant(address, constants) => {
+                let longer = longer(constants, constants.len() + 3);
+                match execute(machine, instruction, &longer, &mut data.to_vec()) {
+                    Err(Stop::Write(written)) if written == address => Err(Stop::Write(address)),
+                    _ => Err(Stop::Read(address)),
+                }
+            }
+            stepped => stepped,
+        },
+    );
+}
+
+#[test]
+fn constants_at_another_base_are_found() {
+    // One byte lower, one byte higher, and far away.
+    is_found(&|machine, instruction, constants, data| {
+        execute(machine, instruction, constants.get(1..).unwrap_or(&[]), data)
+    });
+    is_found(&|machine, instruction, constants, data| execute(machine, instruction, &[&[0], constants].concat(), data));
+    is_found(&|machine, instruction, _, data| execute(machine, instruction, &[], data));
+}
+
+#[test]
+fn constants_that_come_again_after_64_kib_are_found() {
+    is_found_at_constants(
+        &|machine, instruction, constants, data| match execute(machine, instruction, constants, data) {
+            Err(Stop::Read(address)) if is_constant(address.wrapping_sub(MAX_BYTES as u32), constants) => {
+                let twice = [longer(constants, MAX_BYTES), constants.to_vec()].concat();
+                execute(machine, instruction, &twice, data)
+            }
+            stepped => stepped,
+        },
+    );
+}
+
+#[test]
+fn reads_whose_end_wraps_are_found() {
+    // At 2^32 the end comes to 0, and so lies before the end of constants; nothing is read there.
+    is_found(&|machine, instruction, constants, data| match execute(machine, instruction, constants, data) {
+        Err(Stop::Read(address)) if address.checked_add(instruction.width.bytes()).is_none() => {
+            let eip = machine.eip.wrapping_add(instruction.length);
+            Ok(Step { machine: Machine { eip, ..*machine }, flags: FlagEffect::default(), kept: None })
+        }
+        stepped => stepped,
+    });
+    // As an offset the end comes to 0 right below the first constant.
+    is_found(&|machine, instruction, constants, data| match execute(machine, instruction, constants, data) {
+        Err(Stop::Read(address)) if address.wrapping_add(instruction.width.bytes()) == CONSTANTS_BASE => {
+            execute_in_one_area(machine, instruction, constants, data)
+        }
+        stepped => stepped,
+    });
+}
+
+#[test]
+fn the_length_of_the_other_area_is_found() {
+    // Never more constants than data; as many constants as data; as much data as constants.
+    is_found(&|machine, instruction, constants, data| {
+        execute(machine, instruction, &constants[..constants.len().min(data.len())], data)
+    });
+    is_found(&|machine, instruction, constants, data| {
+        execute(machine, instruction, &longer(constants, data.len()), data)
+    });
+    is_found(&|machine, instruction, constants, data| {
+        let mut more = longer(data, constants.len());
+        let stepped = execute(machine, instruction, constants, &mut more);
+        data.copy_from_slice(&more[..data.len()]);
+        stepped
+    });
+}
+
+#[test]
+fn reads_that_look_only_at_data_are_found() {
+    let kinds: [fn(Operation) -> bool; 10] = [
+        |operation| matches!(operation, Operation::Pop(_)),
+        |operation| matches!(operation, Operation::Ret(_)),
+        |operation| matches!(operation, Operation::Leave),
+        |operation| matches!(operation, Operation::Push(_)),
+        |operation| matches!(operation, Operation::Jmp(_) | Operation::Call(_)),
+        |operation| matches!(operation, Operation::BitTest(..)),
+        |operation| matches!(operation, Operation::Text(Text::Movs)),
+        |operation| matches!(operation, Operation::Text(Text::Cmps)),
+        |operation| matches!(operation, Operation::Text(Text::Lods)),
+        |operation| matches!(operation, Operation::Text(Text::Scas)),
+    ];
+    for only_data in kinds {
+        is_found_at_constants(&move |machine, instruction, constants, data| {
+            let constants = if only_data(instruction.operation) { &[] } else { constants };
+            execute(machine, instruction, constants, data)
+        });
+    }
+}
+
+#[test]
+fn the_first_byte_outside_as_the_address_is_found() {
+    is_found(&|machine, instruction, constants, data| match execute(machine, instruction, constants, data) {
+        Err(Stop::Read(address)) if is_constant(address, constants) => {
+            Err(Stop::Read(CONSTANTS_BASE + constants.len() as u32))
+        }
+        stepped => stepped,
+    });
+    is_found(&|machine, instruction, constants, data| match execute(machine, instruction, constants, data) {
+        Err(Stop::Read(address)) if (1..4).contains(&CONSTANTS_BASE.wrapping_sub(address)) => {
+            Err(Stop::Read(CONSTANTS_BASE))
+        }
+        stepped => stepped,
+    });
+}
+
+#[test]
+fn constants_kept_from_another_call_are_found() {
+    // From the first call with as many.
+    let kept: RefCell<BTreeMap<usize, Vec<u8>>> = RefCell::default();
+    let found = disagreements(&Program(|machine, code: &[u8], constants: &[u8], data: &mut [u8], budget| {
+        let mut kept = kept.borrow_mut();
+        let constants = kept.entry(constants.len()).or_insert_with(|| constants.to_vec());
+        steps(&execute, machine, code, constants, data, budget)
+    }));
+    assert!(found >= 5, "{found}");
+}
+
+/// A program before which other refusals stand.
+struct Refuser<P: Other> {
+    refuse: Refuse,
+    program: P,
+}
+
+impl<P: Other> Other for Refuser<P> {
+    fn run(&self, state: &mut [u32], code: &[u8], constants: &[u8], area: &mut [u8], budget: u64) -> u32 {
+        assert_eq!(state.len(), STATE_WORDS);
+        let machine = Machine { regs: [0; 8], eip: state[8], flags: state[9] };
+        let applying = refusals(&machine, code, constants, area, budget);
+        if let Some(number) = (self.refuse)(&applying, constants.len()) {
+            state[10..].fill(0);
+            return number;
+        }
+        self.program.run(state, code, &constants[..constants.len().min(MAX_BYTES)], area, budget)
+    }
+
+    fn check(&self, _: &[u8], _: &mut [u8], _: &mut [u32]) -> u32 {
+        unreachable!("only runs are compared")
+    }
+
+    fn hex(&self, _: &[u8], _: &mut [u8], _: &mut [u32]) -> u32 {
+        unreachable!("only runs are compared")
+    }
+}
+
+/// Disagreements with these refusals.
+fn refused_otherwise(refuse: Refuse) -> u64 {
+    disagreements_at_constants(&Refuser { refuse, program: program(&execute) }, true)
+}
+
+/// The first number of this order that applies.
+fn first_in(order: &[u32], applying: &[u32]) -> Option<u32> {
+    order.iter().copied().find(|number| applying.contains(number))
+}
+
+#[test]
+fn refusals_in_another_order_are_found() {
+    let orders: [Refuse; 5] = [
+        |applying, _| first_in(&[10, 11, 15, 12, 13], applying),
+        |applying, _| first_in(&[10, 11, 12, 15, 13], applying),
+        |applying, _| first_in(&[10, 11, 12, 13, 15], applying),
+        |applying, _| first_in(&[10, 15, 11, 12, 13], applying),
+        |applying, _| first_in(&[15, 10, 11, 12, 13], applying),
+    ];
+    let [right, wrong @ ..] = orders.map(refused_otherwise);
+    assert_eq!(right, 0);
+    assert!(wrong.iter().all(|&found| found >= 5), "{wrong:?}");
+}
+
+#[test]
+fn another_limit_or_number_for_constants_is_found() {
+    let limits: [Refuse; 3] = [
+        // Any number of constants is taken.
+        |applying, _| first_in(&[10, 11, 12, 13], applying),
+        // 65,536 are refused.
+        |applying, constants| match first_in(&[10, 11, 15, 12, 13], applying) {
+            Some(number @ (10 | 11)) => Some(number),
+            _ if constants >= MAX_BYTES => Some(15),
+            other => other,
+        },
+        // They are refused as data are.
+        |applying, _| applying.first().map(|&number| if number == 15 { 11 } else { number }),
+    ];
+    let found = limits.map(refused_otherwise);
+    assert!(found.iter().all(|&found| found >= 5), "{found:?}");
+}
