@@ -44,7 +44,7 @@ impl Program for Sangolid {
         state[8] = case.machine.eip;
         state[9] = case.machine.flags;
         let mut data = case.data.clone();
-        let number = Other::run(self, &mut state, &case.code, &mut data, case.budget);
+        let number = Other::run(self, &mut state, &case.code, &case.constants, &mut data, case.budget);
         let [registers @ .., eip, flags, steps, address] = state;
         let told = Told { eip, flags, number, steps: u64::from(steps), address };
         End { registers, data, told: Some(told) }
@@ -57,7 +57,7 @@ pub struct Partner;
 impl Program for Partner {
     fn run(&mut self, case: &RunCase) -> End {
         let mut data = case.data.clone();
-        let outcome = run(case.machine, &case.code, &mut data, case.budget);
+        let outcome = run(case.machine, &case.code, &case.constants, &mut data, case.budget);
         let told = Told {
             eip: outcome.machine.eip,
             flags: outcome.machine.flags,

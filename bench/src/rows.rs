@@ -1,7 +1,9 @@
 //! What is timed: blocks with their registers and data.
 
 use partner::cases::RunCase;
-use partner::machine::{write, Machine, Width, ALWAYS, CODE_BASE, DATA_BASE, HOME, MAX_BUDGET, MAX_BYTES};
+use partner::machine::{
+    write, Machine, Width, ALWAYS, CODE_BASE, CONSTANTS_BASE, DATA_BASE, HOME, MAX_BUDGET, MAX_BYTES,
+};
 
 /// One row of the table.
 pub struct Row {
@@ -53,6 +55,17 @@ const MEMORY_LOOP: &[u8] = &[
     0xC3, // 15: RET
 ];
 
+/// The memory loop with the word that it reads first, and compares, elsewhere than the one that it adds to.
+const CONSTANT_LOOP: &[u8] = &[
+    0x8B, 0x02, // 0: MOV EAX, [EDX]
+    0x01, 0x46, 0x04, // 2: ADD [ESI+4], EAX
+    0x89, 0x54, 0x8F, 0xFC, // 5: MOV [EDI+ECX*4-4], EDX
+    0x83, 0x3A, 0x00, // 9: CMP dword [EDX], 0
+    0x4B, // 12: DEC EBX
+    0x75, 0xF1, // 13: JNZ 0
+    0xC3, // 15: RET
+];
+
 /// A repeated move; the data has no room for a stack, so the block jumps home.
 const MOVE: &[u8] = &[
     0xF3, 0x66, 0xA5, // 0: REP MOVSW
@@ -96,12 +109,17 @@ fn machine([eax, ecx, edx, ebx, esi, edi]: [u32; 6]) -> Machine {
     Machine { regs: [eax, ecx, edx, ebx, 0, 0, esi, edi], eip: CODE_BASE, flags: ALWAYS }
 }
 
-/// A case whose data's last word becomes the stack, which holds home.
+/// A case without constants whose data's last word becomes the stack, which holds home.
 fn returning(code: &[u8], mut machine: Machine, mut data: Vec<u8>, budget: u64) -> RunCase {
     let top = DATA_BASE + data.len() as u32 - 4;
     machine.regs[4] = top;
     write(&mut data, top, Width::Dword, HOME).expect("the stack lies in the data");
-    RunCase { machine, code: code.to_vec(), data, budget }
+    RunCase { machine, code: code.to_vec(), constants: Vec::new(), data, budget }
+}
+
+/// The case with as many constants as may be.
+fn with_constants(case: RunCase) -> RunCase {
+    RunCase { constants: (0..MAX_BYTES).map(|at| (at % 251) as u8).collect(), ..case }
 }
 
 /// A row of long runs.
@@ -127,17 +145,17 @@ fn long_register_code() -> Vec<u8> {
     code
 }
 
-/// The memory loop over a few words.
-fn memory_loop() -> RunCase {
-    let start = machine([0, 4, 7, 150_000, DATA_BASE, DATA_BASE + 16]);
-    returning(MEMORY_LOOP, start, (1..=FEW_BYTES as u8).collect(), MAX_BUDGET)
+/// The memory loop over a few words, or the one with its word at EDX.
+fn memory_loop(code: &[u8], edx: u32) -> RunCase {
+    let start = machine([0, 4, edx, 150_000, DATA_BASE, DATA_BASE + 16]);
+    returning(code, start, (1..=FEW_BYTES as u8).collect(), MAX_BUDGET)
 }
 
 /// The repeated move through all of the data.
 fn repeated_move() -> RunCase {
     let machine = machine([HOME, MOVED_WORDS, 0, 0, DATA_BASE, DATA_BASE + 2 * MOVED_WORDS]);
     let data = (0..MAX_BYTES).map(|at| (at % 251) as u8).collect();
-    RunCase { machine, code: MOVE.to_vec(), data, budget: MAX_BUDGET }
+    RunCase { machine, code: MOVE.to_vec(), constants: Vec::new(), data, budget: MAX_BUDGET }
 }
 
 /// The loop of calls.
@@ -170,7 +188,10 @@ pub fn rows() -> Vec<Row> {
         long("register loop, 64 bytes of data", register_loop(REGISTER_LOOP, FEW_BYTES)),
         long("register loop, 64 KiB of data", register_loop(REGISTER_LOOP, MAX_BYTES)),
         long("register loop over 645 bytes of code", register_loop(&long_register_code(), FEW_BYTES)),
-        long("memory loop", memory_loop()),
+        long("memory loop", memory_loop(MEMORY_LOOP, 7)),
+        long("memory loop beside 64 KiB of constants", with_constants(memory_loop(MEMORY_LOOP, 7))),
+        long("memory loop, its word in data", memory_loop(CONSTANT_LOOP, DATA_BASE)),
+        long("memory loop, its word in constants", with_constants(memory_loop(CONSTANT_LOOP, CONSTANTS_BASE))),
         long("REP MOVSW of 16,384 words", repeated_move()),
         long("call and return loop", call_loop()),
         long("multiply and divide loop", product_loop()),

@@ -75,7 +75,7 @@ fn cell(number: Option<f64>) -> String {
 fn print_line(name: &str, steps: &str, times: [&str; 4], ratios: [&str; 3], ends: &str) {
     let times = times.map(|cell| format!("{cell:>10}")).concat();
     let ratios = ratios.map(|cell| format!("{cell:>20}")).concat();
-    println!("{name:<37}{steps:>9}{times}{ratios}  {ends}");
+    println!("{name:<40}{steps:>9}{times}{ratios}  {ends}");
 }
 
 /// Compares the programs' ends and times the row if they agree; tells whether they do.

@@ -3,7 +3,7 @@
 use std::ffi::{c_int, c_void};
 
 use partner::cases::RunCase;
-use partner::machine::{CODE_BASE, DATA_BASE, HOME};
+use partner::machine::{CODE_BASE, CONSTANTS_BASE, DATA_BASE, HOME};
 
 use crate::engines::Engine;
 use crate::programs::End;
@@ -21,6 +21,7 @@ extern "C" {
 
 const ARCHITECTURE_X86: c_int = 4;
 const MODE_32: c_int = 1 << 2;
+const READ: u32 = 1;
 const READ_WRITE: u32 = 3;
 const READ_EXECUTE: u32 = 5;
 /// Unicorn maps whole pages of so many bytes.
@@ -35,7 +36,7 @@ fn expect_done(error: c_int) {
     assert_eq!(error, 0, "Unicorn's error number");
 }
 
-/// An engine with a case's code written and room for its data.
+/// An engine with a case's code and constants written and room for its data.
 pub struct Unicorn(*mut c_void);
 
 impl Unicorn {
@@ -85,6 +86,10 @@ impl Engine for Unicorn {
         engine.map(DATA_BASE, case.data.len(), READ_WRITE);
         engine.map(HOME, PAGE, READ_EXECUTE);
         engine.write(CODE_BASE, &case.code);
+        if !case.constants.is_empty() {
+            engine.map(CONSTANTS_BASE, case.constants.len(), READ);
+            engine.write(CONSTANTS_BASE, &case.constants);
+        }
         engine
     }
 

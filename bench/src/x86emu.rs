@@ -3,7 +3,7 @@
 use std::ffi::{c_uint, c_void};
 
 use partner::cases::RunCase;
-use partner::machine::{CODE_BASE, DATA_BASE, HOME};
+use partner::machine::{CODE_BASE, CONSTANTS_BASE, DATA_BASE, HOME};
 
 use crate::engines::Engine;
 use crate::programs::End;
@@ -41,6 +41,7 @@ extern "C" {
     fn x86emu_run(state: *mut State, flags: c_uint) -> c_uint;
 }
 
+const READ: c_uint = 1;
 const READ_WRITE: c_uint = 3;
 const READ_EXECUTE: c_uint = 5;
 /// `X86EMU_RUN_MAX_INSTR`.
@@ -78,12 +79,12 @@ impl Area {
     }
 }
 
-/// An emulation with a case's code, data and home lent to it.
+/// An emulation with a case's code, constants, data and home lent to it.
 pub struct X86emu {
     state: *mut State,
     data: Area,
-    /// Code and home, which are lent and not used again.
-    _lent: [Area; 2],
+    /// Code, constants and home, which are lent and not used again.
+    _lent: Vec<Area>,
 }
 
 impl Engine for X86emu {
@@ -95,12 +96,16 @@ impl Engine for X86emu {
         let data = Area::lend(state, DATA_BASE, &case.data, READ_WRITE);
         let code = Area::lend(state, CODE_BASE, &case.code, READ_EXECUTE);
         let home = Area::lend(state, HOME, &HALT, READ_EXECUTE);
+        let mut lent = vec![code, home];
+        if !case.constants.is_empty() {
+            lent.push(Area::lend(state, CONSTANTS_BASE, &case.constants, READ));
+        }
         let flat = |access| Segment { base: 0, limit: u32::MAX, selector: 0, access };
         // The state is open.
         let segments = unsafe { &mut (*state).segments };
         *segments = [flat(DATA_32); 8];
         segments[CS] = flat(CODE_32);
-        X86emu { state, data, _lent: [code, home] }
+        X86emu { state, data, _lent: lent }
     }
 
     fn run(&mut self, case: &RunCase) -> End {
