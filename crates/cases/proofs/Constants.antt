@@ -43,8 +43,15 @@ use Rattle.cases.specs.Table.{pointing}
 use Rattle.cases.specs.Constants.{four, reads, operands, stacks, strings, many, refuses, unflagged, lengths, constants-table}
 use Rattle.cases.proofs.Holding.{both}
 
--- the cases with eight constants or none compute
-few-hold : All (reads ++ operands ++ stacks ++ strings)
+-- the last of 65,536 constants, and the byte behind it
+abbrev Longest : Type 0
+Longest =
+    (constants : List ℕ) → length constants ≡ 65_536 → take 1 (drop 65_535 constants) ≡ 0x5A ∷ []
+    → Gives (lending constants (ends (0x8A ∷ 0x06 ∷ []) (pointing 0 0 0 0x0020_FFFF 0) four 1 (pointing 2 0x5A 0 0x0020_FFFF 0) four))
+    × Gives (lending constants (stops (0x8A ∷ 0x06 ∷ []) (pointing 0 0 0 0x0021_0000 0) four 1 (pointing 0 0 0 0x0021_0000 0) four 0 5 0x0021_0000))
+
+-- the cases with eight constants or none compute, and so do those two
+computed : All (reads ++ operands ++ stacks ++ strings) × Longest
 unfolding All Holds Gives reads operands stacks strings ones codeBase
     LittleEndian.littleEndian LittleEndian.bytesOf
     Sizes.bits Sizes.modulus Sizes.half Sizes.bytes
@@ -75,43 +82,10 @@ unfolding All Holds Gives reads operands stacks strings ones codeBase
     Effects.addressBy Effects.readsBy Effects.effectBy
     Steps.home Steps.inside Steps.committed Steps.finished Steps.performed Steps.operandAddress Steps.planned Steps.executed Steps.stepOf Steps.stored Steps.loaded
     Runs.onMoved Runs.runFrom Runs.refusal Runs.opened Runs.closed Runs.taken Runs.refused Runs.runOf
-few-hold = (refl, (refl, (refl, (refl, (refl, (refl, (refl, (refl, (refl, (refl, (refl, (refl, (refl, (refl, (refl, (refl, (refl, (refl, (refl, (refl, (refl, (refl, (refl, (refl, (refl, (refl, (refl, (refl, (refl, (refl, (refl, (refl, (refl, (refl, tt))))))))))))))))))))))))))))))))))
-
--- the last of 65,536 constants, and the byte behind it
-longest : (constants : List ℕ) → length constants ≡ 65_536 → take 1 (drop 65_535 constants) ≡ 0x5A ∷ []
-    → Gives (lending constants (ends (0x8A ∷ 0x06 ∷ []) (pointing 0 0 0 0x0020_FFFF 0) four 1 (pointing 2 0x5A 0 0x0020_FFFF 0) four))
-    × Gives (lending constants (stops (0x8A ∷ 0x06 ∷ []) (pointing 0 0 0 0x0021_0000 0) four 1 (pointing 0 0 0 0x0021_0000 0) four 0 5 0x0021_0000))
-unfolding Gives codeBase
-    LittleEndian.littleEndian LittleEndian.bytesOf
-    Sizes.bits Sizes.modulus Sizes.half Sizes.bytes
-    Numbers.bit Numbers.bitAt Numbers.residue Numbers.rest Numbers.beyond Numbers.meaning Numbers.signed Numbers.outside Numbers.negative
-    Results.undefinedFlag Results.allUndefined Results.parity Results.resulting
-    Word.wordOf Word.flagsOf Word.passes
-    Sums.valueOf Sums.carries Sums.adjusts Sums.overflows Sums.flagsOf
-    Binary.sumFlags Binary.differenceFlags Binary.binaryValue Binary.binaryFlags
-    Values.masked Values.shifted Values.shiftValue
-    Changes.shiftFlags
-    Registers.register Registers.withRegister Registers.withEip Registers.withFlags Registers.holder Registers.lowest Registers.bitsFrom Registers.part Registers.replaced Registers.withPart
-    Memory.dataBase Memory.constantsBase Memory.holds Memory.partOf Memory.readOf Memory.numbered Memory.loadOf Memory.storedOf Memory.storeOf
-    Opcodes.ruleOf
-    Grammar.sibLength Grammar.bareLength
-    Answers.displaced
-    Reading.run Reading.bytesThen
-    Decoding.tailTree Decoding.addressTree Decoding.modrmTree Decoding.operandTree Decoding.accepts Decoding.entryTree Decoding.opcodeTree Decoding.some Decoding.acceptsEntry Decoding.escapes Decoding.escapeTree Decoding.firstTree Decoding.repeatTree Decoding.sizeTree Decoding.tree Decoding.answer Decoding.found Decoding.decodeOf
-    Operations.binaryAt Operations.shiftAt Operations.operationOf
-    Senses.senses Senses.senseOf
-    Addresses.scaledIndex Addresses.baseRegister Addresses.addressBase Addresses.effectiveAddress
-    Plans.sizeOf Plans.operandOf Plans.isOffset Plans.addressIn Plans.nextOf Plans.planFor Plans.planOf
-    Words.becomes Words.onward Words.value Words.assign Words.readOr Words.readOf Words.writes
-    Arithmetic.arithmeticAddress Arithmetic.arithmeticReads Arithmetic.assigns Arithmetic.settled Arithmetic.binary Arithmetic.shift Arithmetic.arithmeticEffect
-    Moves.moveReads Moves.moveEffect
-    Stacks.above Stacks.below Stacks.pushed Stacks.stackReads Stacks.stackEffect
-    Branches.counted
-    Strings.passed Strings.round Strings.roundReads Strings.compares Strings.over Strings.repeated Strings.withMachine Strings.idle Strings.stringReads Strings.rounded Strings.stringEffect
-    Effects.addressBy Effects.readsBy Effects.effectBy
-    Steps.home Steps.inside Steps.committed Steps.finished Steps.performed Steps.operandAddress Steps.planned Steps.executed Steps.stepOf Steps.stored Steps.loaded
-    Runs.onMoved Runs.runFrom Runs.refusal Runs.opened Runs.closed Runs.taken Runs.refused Runs.runOf
-longest constants long last = (rw (long, last), rw long)
+computed = (
+  (refl, (refl, (refl, (refl, (refl, (refl, (refl, (refl, (refl, (refl, (refl, (refl, (refl, (refl, (refl, (refl, (refl, (refl, (refl, (refl, (refl, (refl, (refl, (refl, (refl, (refl, (refl, (refl, (refl, (refl, (refl, (refl, (refl, (refl, tt)))))))))))))))))))))))))))))))))),
+  λ constants long last. (rw (long, last), rw long),
+)
 
 -- so many alike, but for the first of them
 drop-many : (k n : ℕ) → drop k (many (k + n)) ≡ many n
@@ -145,7 +119,7 @@ module _ (constants : List ℕ) (given : Lent) (budget : ℕ) where
 lengths-hold : All lengths
 unfolding All Holds lengths
 lengths-hold =
-    let whole = longest (many 65_536) (length-replicate {A = ℕ} 65_536 0x5A) (ap (take 1) (drop-many 65_535 1)) in
+    let whole = computed .1 (many 65_536) (length-replicate {A = ℕ} 65_536 0x5A) (ap (take 1) (drop-many 65_535 1)) in
     let over = length-replicate {A = ℕ} 65_537 0x5A in (
       whole .0,
       (
@@ -169,4 +143,4 @@ lengths-hold =
 -- all of the table holds
 pub constants-hold : All constants-table
 unfolding constants-table
-constants-hold = both (reads ++ operands ++ stacks ++ strings) lengths few-hold lengths-hold
+constants-hold = both (reads ++ operands ++ stacks ++ strings) lengths (computed .0) lengths-hold

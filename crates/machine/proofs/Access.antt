@@ -98,18 +98,19 @@ module _ (constants d : List ℕ) (n a : ℕ) where
     unfolding readOf
     read-outside h = rw (elsewhere, h)
 
-  -- as the part from its place on
+  -- data holds the bytes from its place on
   pub held-data : {at : ℕ} → Placed dataBase (length d) n a at → take (at + n - at) (drop at d) ≡ held (readOf constants d n a)
   unfolding partOf held
   held-data {at} p = let long : at + n - at ≡ n = omega arith in rw (read-data (p .inside), long, p .place)
 
+  -- constants hold them
   pub held-constants : {b at : ℕ} → Missed dataBase (length d) n a b → Placed constantsBase (length constants) n a at
       → take (at + n - at) (drop at constants) ≡ held (readOf constants d n a)
   unfolding partOf held
   held-constants {b} {at} missing p =
       let long : at + n - at ≡ n = omega arith in rw (read-constants (missing .outside) (p .inside), long, p .place)
 
-  -- or as no byte
+  -- neither does
   pub held-none : {b b′ : ℕ} → Missed dataBase (length d) n a b → Missed constantsBase (length constants) n a b′ → [] ≡ held (readOf constants d n a)
   unfolding held
   held-none missing missing′ = rw (read-outside (missing .outside) (missing′ .outside))
