@@ -5,7 +5,7 @@ use Prim.Native.Nat.{ℕ, zero, suc, _+_}
 use native.Mathlib.Nat.{zero-add, suc-add}
 use native.Mathlib.Omega.{arith}
 use lib.Count.{ones}
-use lib.ListN.{length, take, drop, replicate, length-replicate}
+use lib.ListN.{length, take, drop, length-replicate}
 use Rattle.width.specs.LittleEndian as LittleEndian
 use Rattle.width.specs.Sizes as Sizes
 use Rattle.width.specs.Numbers as Numbers
@@ -40,7 +40,7 @@ use Rattle.run.specs.Runs as Runs
 use Rattle.run.proofs.Law.{refusal-changes-nothing}
 use Rattle.cases.specs.Lines.{ends, stops, lending, Gives, Holds, All}
 use Rattle.cases.specs.Table.{pointing}
-use Rattle.cases.specs.Constants.{four, reads, operands, stacks, strings, many, refuses, unflagged, lengths, constants-table}
+use Rattle.cases.specs.Constants.{four, reads, operands, stacks, strings, many, refuses, lengths, constants-table}
 use Rattle.cases.proofs.Holding.{both}
 
 -- the last of 65,536 constants, and the byte behind it

@@ -1,9 +1,9 @@
 -- A load is allowed exactly if it lies wholly in data or wholly in constants, and no read lies in both; a store exactly if it lies wholly in data. Assumes nothing.
 use mathlib.Core.Path.{_≡_, refl, sym, _∙_}
 use mathlib.Core.Logic.{_↔_}
-use mathlib.Core.Bool.{Bool, true, false, cond, true≢false}
+use mathlib.Core.Bool.{Bool, true, false, true≢false}
 use mathlib.Core.List.{List}
-use Prim.Native.Nat.{ℕ, _+_, _<_, _≤_}
+use Prim.Native.Nat.{ℕ, _≤_}
 use native.Mathlib.Omega.{arith}
 use lib.ListN.{length}
 use Rattle.width.specs.declared.Size.{Size}
@@ -13,7 +13,7 @@ use Rattle.machine.specs.declared.memory.Loaded.{Loaded}
 use Rattle.machine.specs.declared.memory.Loaded.the-variants.{Value}
 use Rattle.machine.specs.declared.memory.Stored.{Stored}
 use Rattle.machine.specs.declared.memory.Stored.the-variants.{Done}
-use Rattle.machine.specs.Memory.{dataBase, constantsBase, holds, partOf, part, outside, readOf, numbered, loadOf, storedOf}
+use Rattle.machine.specs.Memory.{dataBase, constantsBase, holds, partOf, numbered, loadOf, storedOf}
 use Rattle.machine.specs.Allowed.{Lies, Readable, in-data, in-constants, Writable}
 use Rattle.machine.proofs.Access.{is-held, is-within, read-data, read-constants, read-outside, stored-held, stored-outside}
 

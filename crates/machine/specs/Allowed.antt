@@ -1,5 +1,4 @@
 -- Which accesses are allowed, as whole numbers: the words of the promises about reads and writes. Assumes nothing.
-use mathlib.Core.Path.{_≡_}
 use mathlib.Core.List.{List}
 use Prim.Native.Nat.{ℕ, _+_, _≤_}
 use lib.ListN.{length}

@@ -1,7 +1,7 @@
 // The lent areas, data and constants: which of them holds an access, and what a load and a store do.
 ghost use mathlib.Core.Path.{_≡_};
 ghost use Prim.Native.Nat.{_+_, _*_, _%_, _≤_};
-ghost use lib.ListN.{length, take, drop};
+ghost use lib.ListN.{length};
 ghost use lib.Seq.{sets};
 ghost use Rattle.width.specs.Sizes.{bytes};
 ghost use Rattle.width.specs.Numbers.{Is};

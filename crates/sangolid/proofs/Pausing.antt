@@ -1,4 +1,4 @@
--- A pause changes nothing: a call with n, and one with m on what came back, end as one call with n + m does. Assumes nothing.
+-- A pause changes nothing: a call with n, and one with m on what came back, with the same code and constants, end as one call with n + m does. Assumes nothing.
 use mathlib.Core.Path.{_≡_, ap, _∙_}
 use mathlib.Core.List.{List, [], _∷_, _++_}
 use Prim.Native.Nat.{ℕ, _+_, _<_, _≤_}
@@ -41,7 +41,7 @@ continues joined =
       number = joined .number;
     }
 
--- m at least 1, n + m within the limit: a call with n, and again with m, as one with n + m; the states of another length are those of `misfit-changes-nothing`
+-- m at least 1, n + m within the limit: a call with n, and again with m, as one with n + m, all three with the same code and constants; the states of another length are those of `misfit-changes-nothing`
 pub pause : (state : List ℕ) (fixed : Fixed) (d : List ℕ) (n m : ℕ) → length state ≡ 12 → 0 < m → n + m ≤ 1_000_000
     → Continues (callOf state fixed d n) (again (callOf state fixed d n) fixed m) (callOf state fixed d (n + m))
 unfolding callOf called stateOf again

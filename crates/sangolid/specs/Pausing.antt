@@ -1,12 +1,11 @@
 -- A pause between two calls of a run: what they and one whole call come to. Assumes nothing.
 use mathlib.Core.Path.{_≡_}
-use mathlib.Core.List.{List}
 use Prim.Native.Nat.{ℕ, _+_}
 use lib.ListN.{take, getD}
 use Rattle.run.specs.Steps.{Fixed}
 use Rattle.sangolid.specs.Interface.{Call, callOf}
 
--- a further call, with the state and the data that one has left
+-- a further call, with the state and the data that one has left, and code and constants
 unfoldable pub again : Call → Fixed → ℕ → Call
 again left fixed budget = callOf (left .state) fixed (left .area) budget
 

@@ -1,6 +1,5 @@
 -- `memory::held` meets its contract: a part of data, of constants, or no byte. Assumes nothing.
 use mathlib.Core.Path.{refl}
-use native.Mathlib.Omega.{arith}
 use borrow.Author.Needs.{needs}
 use Rattle.machine.proofs.Access.{placed, missed, held-data, held-constants, held-none}
 use Rattle.machine.proofs.memory.held.Statement.{statement}
