@@ -1,4 +1,4 @@
--- All of the table of M-104's cases holds of the written rules. Assumes nothing.
+-- All of the tables of M-104's and M-105's cases holds of the written rules. Assumes nothing.
 use mathlib.Core.Path.{_≡_, refl, sym, ap, _∙_}
 use mathlib.Core.List.{List, [], _∷_, _++_}
 use Prim.Native.Nat.{ℕ, zero, suc, _+_}
@@ -41,6 +41,7 @@ use Rattle.run.proofs.Law.{refusal-changes-nothing}
 use Rattle.cases.specs.Lines.{ends, stops, lending, Gives, Holds, All}
 use Rattle.cases.specs.Table.{pointing}
 use Rattle.cases.specs.Constants.{four, reads, operands, stacks, strings, many, refuses, lengths, constants-table}
+use Rattle.cases.specs.Outside.{unread, unwritten, others, outside-table}
 use Rattle.cases.proofs.Holding.{both}
 
 -- the last of 65,536 constants, and the byte behind it
@@ -51,8 +52,8 @@ Longest =
     × Gives (lending constants (stops (0x8A ∷ 0x06 ∷ []) (pointing 0 0 0 0x0021_0000 0) four 1 (pointing 0 0 0 0x0021_0000 0) four 0 5 0x0021_0000))
 
 -- the cases with eight constants or none compute, and so do those two
-computed : All (reads ++ operands ++ stacks ++ strings) × Longest
-unfolding All Holds Gives reads operands stacks strings ones codeBase
+computed : All (reads ++ operands ++ stacks ++ strings) × (All outside-table × Longest)
+unfolding All Holds Gives reads operands stacks strings unread unwritten others outside-table ones codeBase
     LittleEndian.littleEndian LittleEndian.bytesOf
     Sizes.bits Sizes.modulus Sizes.half Sizes.bytes
     Numbers.bit Numbers.bitAt Numbers.residue Numbers.rest Numbers.beyond Numbers.meaning Numbers.signed Numbers.outside Numbers.negative
@@ -63,7 +64,7 @@ unfolding All Holds Gives reads operands stacks strings ones codeBase
     Values.masked Values.shifted Values.shiftValue
     Changes.shiftFlags
     Registers.register Registers.withRegister Registers.withEip Registers.withFlags Registers.holder Registers.lowest Registers.bitsFrom Registers.part Registers.replaced Registers.withPart
-    Memory.dataBase Memory.constantsBase Memory.holds Memory.partOf Memory.readOf Memory.numbered Memory.loadOf Memory.storedOf Memory.storeOf
+    Memory.dataBase Memory.constantsBase Memory.holds Memory.firstOutside Memory.partOf Memory.firstUnread Memory.readOf Memory.numbered Memory.loadOf Memory.storedOf Memory.storeOf
     Opcodes.ruleOf
     Grammar.sibLength Grammar.bareLength
     Answers.displaced
@@ -84,7 +85,10 @@ unfolding All Holds Gives reads operands stacks strings ones codeBase
     Runs.onMoved Runs.runFrom Runs.refusal Runs.opened Runs.closed Runs.taken Runs.refused Runs.runOf
 computed = (
   (refl, (refl, (refl, (refl, (refl, (refl, (refl, (refl, (refl, (refl, (refl, (refl, (refl, (refl, (refl, (refl, (refl, (refl, (refl, (refl, (refl, (refl, (refl, (refl, (refl, (refl, (refl, (refl, (refl, (refl, (refl, (refl, (refl, (refl, tt)))))))))))))))))))))))))))))))))),
-  λ constants long last. (rw (long, last), rw long),
+  (
+    (refl, (refl, (refl, (refl, (refl, (refl, (refl, (refl, (refl, (refl, (refl, (refl, (refl, (refl, (refl, (refl, (refl, (refl, (refl, (refl, (refl, (refl, (refl, (refl, (refl, (refl, (refl, (refl, (refl, (refl, (refl, (refl, (refl, (refl, (refl, (refl, (refl, (refl, (refl, (refl, (refl, (refl, (refl, tt))))))))))))))))))))))))))))))))))))))))))),
+    λ constants long last. (rw (long, last), rw long),
+  ),
 )
 
 -- so many alike, but for the first of them
@@ -119,7 +123,7 @@ module _ (constants : List ℕ) (given : Lent) (budget : ℕ) where
 lengths-hold : All lengths
 unfolding All Holds lengths
 lengths-hold =
-    let whole = computed .1 (many 65_536) (length-replicate {A = ℕ} 65_536 0x5A) (ap (take 1) (drop-many 65_535 1)) in
+    let whole = computed .1 .1 (many 65_536) (length-replicate {A = ℕ} 65_536 0x5A) (ap (take 1) (drop-many 65_535 1)) in
     let over = length-replicate {A = ℕ} 65_537 0x5A in (
       whole .0,
       (
@@ -140,7 +144,11 @@ lengths-hold =
       ),
     )
 
--- all of the table holds
+-- all of M-104's table holds
 pub constants-hold : All constants-table
 unfolding constants-table
 constants-hold = both (reads ++ operands ++ stacks ++ strings) lengths (computed .0) lengths-hold
+
+-- all of M-105's table holds
+pub outside-hold : All outside-table
+outside-hold = computed .1 .0

@@ -21,7 +21,7 @@ looks code given after = ends code given eight 1 after eight
 abbrev pub changes : List ℕ → Lent → Lent → ℕ → ℕ → Run
 changes code given after fourth fifth = ends code given eight 1 after (0x11 ∷ 0x22 ∷ 0x33 ∷ fourth ∷ fifth ∷ 0x66 ∷ 0x77 ∷ 0x88 ∷ [])
 
--- a read outside them stops the first step: number 5 at the address, and the machine as it was
+-- a read outside them stops the first step: number 5 at the first address outside, and the machine as it was
 abbrev pub misses : List ℕ → Lent → ℕ → Run
 misses code given address = stops code given eight 1 given eight 0 5 address
 
@@ -84,7 +84,7 @@ double-shifts =
     ∷ run (step (0x0F ∷ 0xAD ∷ 0xD0 ∷ []) (at 0 0x8000_0001 32 1 0x08D7) (at 3 0x8000_0001 32 1 0x08D7))
     -- 0F A5 06, CL = 0: the memory operand is still read
     ∷ run (looks (0x0F ∷ 0xA5 ∷ 0x06 ∷ []) (aimed 0 1 0x0010_0004 0x08D7) (aimed 3 1 0x0010_0004 0x08D7))
-    ∷ run (misses (0x0F ∷ 0xA5 ∷ 0x06 ∷ []) (aimed 0 1 0x0010_0005 0x08D7) 0x0010_0005)
+    ∷ run (misses (0x0F ∷ 0xA5 ∷ 0x06 ∷ []) (aimed 0 1 0x0010_0005 0x08D7) 0x0010_0008)
     ∷ []
 
 -- CMOVcc
@@ -93,7 +93,7 @@ conditional-moves =
     -- 0F 44 06: with ZF set EAX is moved to, and else keeps its value; a read outside the data gives 5 even then
     run (looks (0x0F ∷ 0x44 ∷ 0x06 ∷ []) (aimed 0 0x77 0x0010_0004 0x0042) (aimed 3 0x8877_6655 0x0010_0004 0x0042))
     ∷ run (looks (0x0F ∷ 0x44 ∷ 0x06 ∷ []) (aimed 0 0x77 0x0010_0004 0x0002) (aimed 3 0x77 0x0010_0004 0x0002))
-    ∷ run (misses (0x0F ∷ 0x44 ∷ 0x06 ∷ []) (aimed 0 0x77 0x0010_0005 0x0002) 0x0010_0005)
+    ∷ run (misses (0x0F ∷ 0x44 ∷ 0x06 ∷ []) (aimed 0 0x77 0x0010_0005 0x0002) 0x0010_0008)
     -- 66 0F 45 06: AX is moved to, and the rest of EAX keeps its value
     ∷ run (looks (0x66 ∷ 0x0F ∷ 0x45 ∷ 0x06 ∷ []) (aimed 0 0x1234_5678 0x0010_0004 0x0002) (aimed 4 0x1234_6655 0x0010_0004 0x0002))
     ∷ []

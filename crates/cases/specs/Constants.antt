@@ -39,19 +39,19 @@ unfoldable pub reads : List Case
 reads =
     -- the last four constants, and one byte over
     run (looks (0x8B ∷ 0x06 ∷ []) (pointing 0 0 0 0x0020_0004 0) (pointing 2 0x8877_6655 0 0x0020_0004 0))
-    ∷ run (misses (0x8B ∷ 0x06 ∷ []) (pointing 0 0 0 0x0020_0005 0) 5 0x0020_0005)
+    ∷ run (misses (0x8B ∷ 0x06 ∷ []) (pointing 0 0 0 0x0020_0005 0) 5 0x0020_0008)
     -- the first four, and from one byte below
     ∷ run (looks (0x8B ∷ 0x06 ∷ []) (pointing 0 0 0 0x0020_0000 0) (pointing 2 0x4433_2211 0 0x0020_0000 0))
     ∷ run (misses (0x8B ∷ 0x06 ∷ []) (pointing 0 0 0 0x001F_FFFF 0) 5 0x001F_FFFF)
     -- the last two, and one byte over
     ∷ run (looks (0x66 ∷ 0x8B ∷ 0x06 ∷ []) (pointing 0 0 0 0x0020_0006 0) (pointing 3 0x8877 0 0x0020_0006 0))
-    ∷ run (misses (0x66 ∷ 0x8B ∷ 0x06 ∷ []) (pointing 0 0 0 0x0020_0007 0) 5 0x0020_0007)
+    ∷ run (misses (0x66 ∷ 0x8B ∷ 0x06 ∷ []) (pointing 0 0 0 0x0020_0007 0) 5 0x0020_0008)
     -- the last one, and the byte behind it
     ∷ run (looks (0x8A ∷ 0x06 ∷ []) (pointing 0 0 0 0x0020_0007 0) (pointing 2 0x88 0 0x0020_0007 0))
     ∷ run (misses (0x8A ∷ 0x06 ∷ []) (pointing 0 0 0 0x0020_0008 0) 5 0x0020_0008)
     -- all data, and one byte over; across no area; where the last byte's address would wrap
     ∷ run (looks (0x8B ∷ 0x06 ∷ []) (pointing 0 0 0 0x0010_0000 0) (pointing 2 0xDDCC_BBAA 0 0x0010_0000 0))
-    ∷ run (misses (0x8B ∷ 0x06 ∷ []) (pointing 0 0 0 0x0010_0001 0) 5 0x0010_0001)
+    ∷ run (misses (0x8B ∷ 0x06 ∷ []) (pointing 0 0 0 0x0010_0001 0) 5 0x0010_0004)
     ∷ run (misses (0x8B ∷ 0x06 ∷ []) (pointing 0 0 0 0x0018_0000 0) 5 0x0018_0000)
     ∷ run (misses (0x8B ∷ 0x06 ∷ []) (pointing 0 0 0 0xFFFF_FFFE 0) 5 0xFFFF_FFFE)
     -- no constants: not even one byte
@@ -65,7 +65,7 @@ operands =
     run (misses (0x89 ∷ 0x06 ∷ []) (pointing 0 0x77 0 0x0020_0000 0) 6 0x0020_0000)
     -- 01 06 reads, which is allowed, and then writes; one byte over the read is not allowed
     ∷ run (misses (0x01 ∷ 0x06 ∷ []) (pointing 0 0x77 0 0x0020_0004 0) 6 0x0020_0004)
-    ∷ run (misses (0x01 ∷ 0x06 ∷ []) (pointing 0 0x77 0 0x0020_0005 0) 5 0x0020_0005)
+    ∷ run (misses (0x01 ∷ 0x06 ∷ []) (pointing 0 0x77 0 0x0020_0005 0) 5 0x0020_0008)
     -- D3 26 by CL = 0 still reads and writes
     ∷ run (misses (0xD3 ∷ 0x26 ∷ []) (pointing 0 0 0 0x0020_0000 0) 6 0x0020_0000)
     -- 39 06 only reads: equal
@@ -80,11 +80,11 @@ stacks =
     ∷ run (misses (0xE8 ∷ 0x00 ∷ 0x00 ∷ 0x00 ∷ 0x00 ∷ []) (stacked 0 0 0x0020_0008 0) 6 0x0020_0004)
     -- 58, C3 and C9 read: the last four constants, and one byte over
     ∷ run (looks (0x58 ∷ []) (stacked 0 0 0x0020_0004 0) (stacked 1 0x8877_6655 0x0020_0008 0))
-    ∷ run (misses (0x58 ∷ []) (stacked 0 0 0x0020_0005 0) 5 0x0020_0005)
+    ∷ run (misses (0x58 ∷ []) (stacked 0 0 0x0020_0005 0) 5 0x0020_0008)
     ∷ run (looks (0xC3 ∷ []) (stacked 0 0 0x0020_0004 0) (record { regs = 0 ∷ 0 ∷ 0 ∷ 0 ∷ 0x0020_0008 ∷ 0 ∷ 0 ∷ 0 ∷ []; eip = 0x8877_6655; word = 0x0002 }))
-    ∷ run (misses (0xC3 ∷ []) (stacked 0 0 0x0020_0005 0) 5 0x0020_0005)
+    ∷ run (misses (0xC3 ∷ []) (stacked 0 0 0x0020_0005 0) 5 0x0020_0008)
     ∷ run (looks (0xC9 ∷ []) (stacked 0 0 0 0x0020_0000) (stacked 1 0 0x0020_0004 0x4433_2211))
-    ∷ run (misses (0xC9 ∷ []) (stacked 0 0 0 0x0020_0005) 5 0x0020_0005)
+    ∷ run (misses (0xC9 ∷ []) (stacked 0 0 0 0x0020_0005) 5 0x0020_0008)
     ∷ []
 
 -- string instructions
@@ -93,7 +93,7 @@ strings =
     -- A5 from constants to data, and from data to constants; from one byte over nothing is written
     run (writes (0xA5 ∷ []) (pointing 0 0 0 0x0020_0004 0x0010_0000) (pointing 1 0 0 0x0020_0008 0x0010_0004) (0x55 ∷ 0x66 ∷ 0x77 ∷ 0x88 ∷ []))
     ∷ run (misses (0xA5 ∷ []) (pointing 0 0 0 0x0010_0000 0x0020_0000) 6 0x0020_0000)
-    ∷ run (misses (0xA5 ∷ []) (pointing 0 0 0 0x0020_0005 0x0010_0000) 5 0x0020_0005)
+    ∷ run (misses (0xA5 ∷ []) (pointing 0 0 0 0x0020_0005 0x0010_0000) 5 0x0020_0008)
     -- AB writes, AD reads
     ∷ run (misses (0xAB ∷ []) (pointing 0 0x77 0 0 0x0020_0000) 6 0x0020_0000)
     ∷ run (looks (0xAD ∷ []) (pointing 0 0 0 0x0020_0004 0) (pointing 1 0x8877_6655 0 0x0020_0008 0))

@@ -3,3 +3,4 @@ pub mod Lines
 pub mod Table
 pub mod Bits
 pub mod Constants
+pub mod Outside

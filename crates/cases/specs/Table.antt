@@ -77,10 +77,10 @@ cases-1-to-12 =
     ∷ run (ends moves midway (moved 10 512) 15 (pointing 2 0 0 0x0010_0064 0x0010_0164) (moved 25 512))
     -- 11. The same with 352 data bytes, budget 100: 24 steps, number 6 at 00100160h, ECX 1, the 24 moved that fit
     ∷ run (stops moves start (moved 0 352) 100 (pointing 0 0 1 0x0010_0060 0x0010_0160) (moved 24 352) 24 6 0x0010_0160)
-    -- 12. 8B 06, 8 data bytes: ESI = 00100004h reads; 00100005h gives 5 at 00100005h
+    -- 12. 8B 06, 8 data bytes: ESI = 00100004h reads; 00100005h gives 5 at 00100008h (M-105)
     ∷ run (ends (0x8B ∷ 0x06 ∷ []) (pointing 0 0 0 0x0010_0004 0) eight 1 (pointing 2 0x8877_6655 0 0x0010_0004 0) eight)
     ∷ run
-    (stops (0x8B ∷ 0x06 ∷ []) (pointing 0 0 0 0x0010_0005 0) eight 1 (pointing 0 0 0 0x0010_0005 0) eight 0 5 0x0010_0005)
+    (stops (0x8B ∷ 0x06 ∷ []) (pointing 0 0 0 0x0010_0005 0) eight 1 (pointing 0 0 0 0x0010_0005 0) eight 0 5 0x0010_0008)
     ∷ []
 
 -- the whole table

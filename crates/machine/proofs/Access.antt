@@ -2,7 +2,7 @@
 use mathlib.Core.Path.{_≡_, refl, sym, ap, _∙_}
 use mathlib.Core.Bool.{Bool, true, false, cond, and-eq-true-iff}
 use mathlib.Core.List.{List, [], append-assoc}
-use Prim.Native.Nat.{ℕ, zero, suc, _+_, _-_, _*_, _%_, _<_, _≤_}
+use Prim.Native.Nat.{ℕ, zero, suc, _+_, _-_, _*_, _%_, _^_, _<_, _≤_}
 use native.Mathlib.Omega.{arith}
 use lib.Dec.{leb}
 use lib.ListN.{length, getD, take, drop, length-drop}
@@ -19,7 +19,7 @@ use Rattle.machine.specs.declared.memory.Loaded.{Loaded}
 use Rattle.machine.specs.declared.memory.Loaded.the-variants.{Value}
 use Rattle.machine.specs.declared.memory.Stored.{Stored}
 use Rattle.machine.specs.declared.memory.Stored.the-variants.{Done}
-use Rattle.machine.specs.Memory.{dataBase, constantsBase, holds, placeOf, partOf, Read, part, outside, readOf, held, numbered, loadOf, storedOf, storeOf}
+use Rattle.machine.specs.Memory.{dataBase, constantsBase, holds, placeOf, firstOutside, partOf, firstUnread, Read, part, outside, readOf, held, numbered, loadOf, storedOf, storeOf}
 
 module _ (base len n a : ℕ) where
   -- an area holds an access that lies in it
@@ -54,31 +54,52 @@ module _ (base len n a : ℕ) where
     pub place : at ≡ a - base
     pub fits : at + n ≤ len
 
-  -- the area does not hold the access, and b is its address
-  pub record Missed (b : ℕ) : Type 0 where
+  -- the area does not hold the access
+  pub record Missed : Type 0 where
     pub outside : holds base len n a ≡ false
-    pub address : b ≡ a
 
 -- what a place that was found says of the access
 pub placed : {p : Located} {base len m n a at : ℕ} → m ≡ n → p ≡ placeOf base len m a → p ≡ At at → Placed base len n a at
 unfolding placeOf
 placed {p} {base} {len} {m} {n} {a} {at} size found is = by (holds base len n a) refl (rw size at (sym found ∙ is))
   where
-    by : (t : Bool) → holds base len n a ≡ t → cond t (At (a - base)) (Located.Outside a) ≡ At at → Placed base len n a at
+    by : (t : Bool) → holds base len n a ≡ t → cond t (At (a - base)) Located.Outside ≡ At at → Placed base len n a at
     by true h e =
         let within = fits-in base len n a h in
         let place : at ≡ a - base = cc in
         record { inside = h; place = place; fits = omega arith }
     by false h e = absurd (let z : _≡_ {A = ℕ} 0 1 = cc in omega arith)
 
--- what an address that was found outside says of the access
-pub missed : {p : Located} {base len m n a b : ℕ} → m ≡ n → p ≡ placeOf base len m a → p ≡ Located.Outside b → Missed base len n a b
+-- what an answer that none was found says of it
+pub missed : {p : Located} {base len m n a : ℕ} → m ≡ n → p ≡ placeOf base len m a → p ≡ Located.Outside → Missed base len n a
 unfolding placeOf
-missed {p} {base} {len} {m} {n} {a} {b} size found is = by (holds base len n a) refl (rw size at (sym found ∙ is))
+missed {p} {base} {len} {m} {n} {a} size found is = by (holds base len n a) refl (rw size at (sym found ∙ is))
   where
-    by : (t : Bool) → holds base len n a ≡ t → cond t (At (a - base)) (Located.Outside a) ≡ Located.Outside b → Missed base len n a b
+    by : (t : Bool) → holds base len n a ≡ t → cond t (At (a - base)) Located.Outside ≡ Located.Outside → Missed base len n a
     by true h e = absurd (let z : _≡_ {A = ℕ} 0 1 = cc in omega arith)
-    by false h e = record { outside = h; address = cc }
+    by false h e = record { outside = h }
+
+module _ (base len a : ℕ) where
+  -- from an address in an area on, its end is the first outside
+  pub first-past : holds base len 1 a ≡ true → firstOutside base len a ≡ (base + len) % 2 ^ 32
+  unfolding firstOutside
+  first-past h = rw h
+
+  -- from any other on, this address itself
+  pub first-itself : holds base len 1 a ≡ false → firstOutside base len a ≡ a
+  unfolding firstOutside
+  first-itself h = rw h
+
+module _ (constants d : List ℕ) (a : ℕ) where
+  -- for a read that begins in data it is data's
+  pub unread-data : holds dataBase (length d) 1 a ≡ true → firstUnread constants d a ≡ firstOutside dataBase (length d) a
+  unfolding firstUnread
+  unread-data h = rw h
+
+  -- for any other, that of the constants
+  pub unread-constants : holds dataBase (length d) 1 a ≡ false → firstUnread constants d a ≡ firstOutside constantsBase (length constants) a
+  unfolding firstUnread
+  unread-constants h = rw h
 
 module _ (constants d : List ℕ) (n a : ℕ) where
   -- a read that data holds is a part of data
@@ -93,8 +114,8 @@ module _ (constants d : List ℕ) (n a : ℕ) where
     unfolding readOf
     read-constants h = rw (elsewhere, h)
 
-    -- any other gives the address
-    pub read-outside : holds constantsBase (length constants) n a ≡ false → readOf constants d n a ≡ outside a
+    -- any other gives the first address outside
+    pub read-outside : holds constantsBase (length constants) n a ≡ false → readOf constants d n a ≡ outside (firstUnread constants d a)
     unfolding readOf
     read-outside h = rw (elsewhere, h)
 
@@ -104,14 +125,14 @@ module _ (constants d : List ℕ) (n a : ℕ) where
   held-data {at} p = let long : at + n - at ≡ n = omega arith in rw (read-data (p .inside), long, p .place)
 
   -- constants hold them
-  pub held-constants : {b at : ℕ} → Missed dataBase (length d) n a b → Placed constantsBase (length constants) n a at
+  pub held-constants : {at : ℕ} → Missed dataBase (length d) n a → Placed constantsBase (length constants) n a at
       → take (at + n - at) (drop at constants) ≡ held (readOf constants d n a)
   unfolding partOf held
-  held-constants {b} {at} missing p =
+  held-constants {at} missing p =
       let long : at + n - at ≡ n = omega arith in rw (read-constants (missing .outside) (p .inside), long, p .place)
 
   -- neither does
-  pub held-none : {b b′ : ℕ} → Missed dataBase (length d) n a b → Missed constantsBase (length constants) n a b′ → [] ≡ held (readOf constants d n a)
+  pub held-none : Missed dataBase (length d) n a → Missed constantsBase (length constants) n a → [] ≡ held (readOf constants d n a)
   unfolding held
   held-none missing missing′ = rw (read-outside (missing .outside) (missing′ .outside))
 
@@ -122,35 +143,35 @@ module _ (constants d : List ℕ) (n a : ℕ) where
       let within = fits-in base (length area) n a h in
       length-take-le n (drop (a - base) area) (rw (length-drop (a - base) area) (omega arith))
 
-  -- what is read: so many bytes, or none, and then the address is the access's
+  -- what is read: so many bytes, or none, and then the first address outside is told
   pub data Reads : Read → Type 0 where
     whole : {bytes : List ℕ} → length bytes ≡ n → Reads (part bytes)
-    none : Reads (outside a)
+    none : Reads (outside (firstUnread constants d a))
 
   pub reads : Reads (readOf constants d n a)
   unfolding readOf
   reads = by (holds dataBase (length d) n a) (holds constantsBase (length constants) n a) refl refl
     where
       by : (x y : Bool) → holds dataBase (length d) n a ≡ x → holds constantsBase (length constants) n a ≡ y
-          → Reads (cond x (part (partOf dataBase d n a)) (cond y (part (partOf constantsBase constants n a)) (outside a)))
+          → Reads (cond x (part (partOf dataBase d n a)) (cond y (part (partOf constantsBase constants n a)) (outside (firstUnread constants d a))))
       by true y h k = whole (part-long dataBase d h)
       by false true h k = whole (part-long constantsBase constants k)
       by false false h k = none
 
 -- every size has a byte
-some-bytes : (w : Size) → 0 < bytes w
+pub some-bytes : (w : Size) → 0 < bytes w
 unfolding bytes
 some-bytes Byte = omega arith
 some-bytes Word = omega arith
 some-bytes Dword = omega arith
 
 module _ (constants d : List ℕ) (w : Size) (a : ℕ) {m : ℕ} {got : List ℕ} (size : m ≡ bytes w) (is : got ≡ held (readOf constants d m a)) where
-  -- with no byte held a load gives the address
-  pub load-none : length got ≡ 0 → Loaded.Outside a ≡ loadOf constants d w a
+  -- with no byte held a load gives the first address outside
+  pub load-none : length got ≡ 0 → Loaded.Outside (firstUnread constants d a) ≡ loadOf constants d w a
   unfolding held numbered loadOf
   load-none empty = by (readOf constants d (bytes w) a) (reads constants d (bytes w) a) (rw size at is)
     where
-      by : (r : Read) → Reads constants d (bytes w) a r → got ≡ held r → Loaded.Outside a ≡ numbered r
+      by : (r : Read) → Reads constants d (bytes w) a r → got ≡ held r → Loaded.Outside (firstUnread constants d a) ≡ numbered r
       by (part l) (whole long) e = absurd (let some = some-bytes w in let z : length l ≡ 0 = rw (← e) empty in omega arith)
       by (outside b) none e = refl
 
@@ -169,8 +190,8 @@ module _ (d : List ℕ) (w : Size) (a : ℕ) where
   unfolding storedOf
   stored-held h = rw h
 
-  -- any other gives the address
-  pub stored-outside : holds dataBase (length d) (bytes w) a ≡ false → storedOf d w a ≡ Stored.Outside a
+  -- any other gives the first address outside
+  pub stored-outside : holds dataBase (length d) (bytes w) a ≡ false → storedOf d w a ≡ Stored.Outside (firstOutside dataBase (length d) a)
   unfolding storedOf
   stored-outside h = rw h
 

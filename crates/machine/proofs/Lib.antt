@@ -1,4 +1,5 @@
 -- The laws of `machine`. Assumes nothing.
 pub mod Access
 pub mod Allowed
+pub mod Outside
 pub mod Parts

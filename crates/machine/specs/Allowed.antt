@@ -1,6 +1,7 @@
--- Which accesses are allowed, as whole numbers: the words of the promises about reads and writes. Assumes nothing.
+-- Which accesses are allowed, and which byte of another is the first outside, as whole numbers: the words of the promises about reads and writes. Assumes nothing.
+use mathlib.Core.Path.{_≡_}
 use mathlib.Core.List.{List}
-use Prim.Native.Nat.{ℕ, _+_, _≤_}
+use Prim.Native.Nat.{ℕ, _+_, _<_, _≤_}
 use lib.ListN.{length}
 use Rattle.machine.specs.Memory.{dataBase, constantsBase}
 
@@ -17,3 +18,20 @@ pub data Readable (constants d : List ℕ) (n a : ℕ) : Type 0 where
 -- a write lies wholly in data
 abbrev pub Writable : List ℕ → ℕ → ℕ → Type 0
 Writable d n a = Lies dataBase (length d) n a
+
+-- b is the first address from a on that is not in an area of so many bytes at a base: it lies outside, and all before it lie inside
+pub record First (base len a b : ℕ) : Type 0 where
+  pub onward : a ≤ b
+  pub outside : Lies base len 1 b → ⊥
+  pub before : (c : ℕ) → a ≤ c → c < b → Lies base len 1 c
+
+-- b is the first address outside for a read at a: of the area that holds the byte at a, or a itself where neither does
+pub data Unread (constants d : List ℕ) (a b : ℕ) : Type 0 where
+  of-data : Lies dataBase (length d) 1 a → First dataBase (length d) a b → Unread constants d a b
+  of-constants : Lies constantsBase (length constants) 1 a → First constantsBase (length constants) a b → Unread constants d a b
+  of-neither : (Readable constants d 1 a → ⊥) → b ≡ a → Unread constants d a b
+
+-- an access of n bytes at address a has a byte at b
+pub record Among (n a b : ℕ) : Type 0 where
+  pub low : a ≤ b
+  pub high : b < a + n

@@ -1,27 +1,36 @@
 // The lent areas, data and constants: which of them holds an access, and what a load and a store do.
 ghost use mathlib.Core.Path.{_≡_};
-ghost use Prim.Native.Nat.{_+_, _*_, _%_, _≤_};
+ghost use Prim.Native.Nat.{_+_, _*_, _%_, _^_, _≤_};
 ghost use lib.ListN.{length};
 ghost use lib.Seq.{sets};
 ghost use Rattle.width.specs.Sizes.{bytes};
 ghost use Rattle.width.specs.Numbers.{Is};
 ghost use Rattle.width.specs.LittleEndian.{littleEndian, bytesOf};
-ghost use Rattle.machine.specs.Memory.{placeOf, readOf, held, loadOf, storeOf, storedOf};
+ghost use Rattle.machine.specs.Memory.{
+  placeOf,
+  firstOutside,
+  firstUnread,
+  readOf,
+  held,
+  loadOf,
+  storeOf,
+  storedOf,
+};
 use width::Size;
 
-// Where an access lies in an area, or the address that is outside.
+// Where an access lies in an area, or that it does not.
 enum Located {
     At(usize),
-    Outside(u32),
+    Outside,
 }
 
-// What a load gives: the number, or the address that is outside.
+// What a load gives: the number, or the first address that is outside.
 pub enum Loaded {
     Value(u32),
     Outside(u32),
 }
 
-// What a store answers: done, or the address that is outside.
+// What a store answers: done, or the first address that is outside.
 pub enum Stored {
     Done,
     Outside(u32),
@@ -38,16 +47,33 @@ fn locate(base: u32, len: usize, n: usize, a: u32) -> Located
     ensures { λ r. ⌜ r ≡ placeOf base len n a ⌝ }
 {
     if a < base {
-        return Located::Outside(a);
+        return Located::Outside;
     }
     let at = (a - base) as usize;
     if len < n {
-        return Located::Outside(a);
+        return Located::Outside;
     }
     if len - n < at {
-        return Located::Outside(a);
+        return Located::Outside;
     }
     Located::At(at)
+}
+
+// The address just past an area of so many bytes at a base.
+fn past(base: u32, len: usize) -> u32
+    ensures { λ r. ⌜ r ≡ (base + len) % 2 ^ 32 ⌝ }
+{
+    ((base as u64 + (len % 0x1_0000_0000) as u64) % 0x1_0000_0000) as u32
+}
+
+// The first address from a on that is not in an area of so many bytes at a base.
+fn first_outside(base: u32, len: usize, a: u32) -> u32
+    ensures { λ r. ⌜ r ≡ firstOutside base len a ⌝ }
+{
+    match locate(base, len, 1, a) {
+        Located::At(_) => past(base, len),
+        Located::Outside => a,
+    }
 }
 
 // A byte as a number.
@@ -98,10 +124,20 @@ pub fn held<'a>(constants: &'a [u8], area: &'a [u8], n: usize, a: u32) -> &'a [u
 {
     match locate(DATA, area.len(), n, a) {
         Located::At(at) => &area[at..at + n],
-        Located::Outside(_) => match locate(CONSTANTS, constants.len(), n, a) {
+        Located::Outside => match locate(CONSTANTS, constants.len(), n, a) {
             Located::At(at) => &constants[at..at + n],
-            Located::Outside(_) => &constants[..0],
+            Located::Outside => &constants[..0],
         },
+    }
+}
+
+// The first address outside for a read at a: of the area that holds the byte there; where neither does, a itself.
+fn first_unread(constants: &[u8], area: &[u8], a: u32) -> u32
+    ensures { λ r. ⌜ r ≡ firstUnread (now (constants .entry)) (now (area .entry)) a ⌝ }
+{
+    match locate(DATA, area.len(), 1, a) {
+        Located::At(_) => first_outside(DATA, area.len(), a),
+        Located::Outside => first_outside(CONSTANTS, constants.len(), a),
     }
 }
 
@@ -111,7 +147,7 @@ pub fn load<'a>(constants: &'a [u8], area: &'a [u8], w: Size, a: u32) -> Loaded
 {
     let part = held(constants, area, width::bytes(w), a);
     if part.len() == 0 {
-        return Loaded::Outside(a);
+        return Loaded::Outside(first_unread(constants, area, a));
     }
     Loaded::Value(number(part, w))
 }
@@ -164,6 +200,6 @@ pub fn store(area: &mut [u8], w: Size, a: u32, v: u32) -> Stored
             put(area, at, w, v);
             Stored::Done
         }
-        Located::Outside(b) => Stored::Outside(b),
+        Located::Outside => Stored::Outside(first_outside(DATA, area.len(), a)),
     }
 }

@@ -9,3 +9,4 @@ pub mod Kept
 pub mod Law
 pub mod Unreadable
 pub mod Repeated
+pub mod Outside

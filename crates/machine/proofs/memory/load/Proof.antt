@@ -4,10 +4,13 @@ use borrow.Author.Needs.{needs}
 use Rattle.machine.proofs.Access.{load-none, load-some}
 use Rattle.machine.proofs.memory.load.Statement.{statement}
 use Rattle.machine.proofs.memory.load.Tie as tie
+use Rattle.machine.specs.declared.memory.Loaded.{Loaded}
 use Rattle.machine.specs.declared.memory.Loaded.the-variants.{Value}
 
 returns : tie.Need-returns
-returns c = load-none _ _ _ _ (c .before .before .bytes .ensures) (c .before .held .ensures) (c .if1 .taken)
+returns c =
+    ap Loaded.Outside (c .first-unread .ensures)
+    ∙ load-none _ _ _ _ (c .before .before .before .bytes .ensures) (c .before .before .held .ensures) (c .before .if1 .taken)
 
 number-requires : tie.Need-number-requires
 number-requires c κs = load-some _ _ _ _ (c .before .before .bytes .ensures) (c .before .held .ensures) (c .if1 .left) .0
@@ -21,6 +24,7 @@ pub load-spec : {M : Type 1} → statement M
 load-spec =
     tie.close
     (tie.spec
+    (λ c κs. search needs)
     (λ c κs. search needs)
     (λ c κs. search needs)
     returns

@@ -27,8 +27,8 @@ returns-2 : tie.Need-returns-2
 unfolding dataBase
 returns-2 c =
     let found = c .before .before .before in
-    let p = missed (found .before .bytes .ensures) (found .locate .ensures) (c .before .b .given .1) in
-    (rw (stored-outside _ _ _ (p .outside)) (ap Stored.Outside (p .address)), sym (store-outside _ _ _ _ (p .outside)))
+    let p = missed (found .before .bytes .ensures) (found .locate .ensures) (c .before .enum-told .given .1) in
+    (rw (stored-outside _ _ _ (p .outside)) (ap Stored.Outside (c .first-outside .ensures)), sym (store-outside _ _ _ _ (p .outside)))
 
 pub store-spec : {M : Type 1} → statement M
 store-spec =
@@ -39,6 +39,7 @@ store-spec =
     (λ c. search needs)
     put-requires
     (λ c. search needs)
+    (λ c κs. search needs)
     (λ c. search needs)
     returns
     returns-2)
