@@ -2,6 +2,7 @@
 
 mod bits;
 mod constants;
+mod ends;
 mod hex;
 mod rooms;
 
@@ -153,7 +154,7 @@ impl Generator {
     /// The next case, at least one in seven a hex file; single instructions go through all forms in turn.
     pub fn next_case(&mut self) -> Case {
         // Vectors have steps for each form beside these cases, so among these more are hex files.
-        let kinds = if self.size == Size::Small { 1450 } else { 1270 };
+        let kinds = if self.size == Size::Small { 1550 } else { 1365 };
         match self.random.below(kinds) {
             0..=589 => Case::Run(self.single()),
             590..=649 => Case::Run(self.bits()),
@@ -184,6 +185,7 @@ impl Generator {
                 Case::HexAnswerLength(self.hex(), length)
             }
             1005..=1084 => Case::Run(self.at_constants()),
+            1085..=1164 => Case::Run(self.at_ends()),
             _ => Case::Hex(self.hex()),
         }
     }
@@ -233,9 +235,12 @@ impl Generator {
         Machine { regs, eip: CODE_BASE, flags: self.flags() }
     }
 
-    /// An address for an access: by their share at the constants, else mostly inside the data, often across an end of
-    /// it, at times far away.
+    /// An address for an access: by their shares around ends or at the constants, else mostly inside the data, often
+    /// across an end of it, at times far away.
     fn address(&mut self, areas: &Areas) -> u32 {
+        if self.random.percent(areas.ends) {
+            return self.end_address(areas);
+        }
         if self.random.percent(areas.share) {
             return self.constant_address(areas);
         }
@@ -668,7 +673,7 @@ impl Generator {
         let mut case = self.single();
         let mut code = self.instruction();
         let constants = self.long_constants(MAX_BYTES);
-        let mut areas = Areas { constants, data: vec![0; MAX_BYTES], share: HALF };
+        let mut areas = Areas { constants, data: vec![0; MAX_BYTES], share: HALF, ends: 0 };
         self.aim(&mut code, &mut case.machine, &mut areas);
         let offset = MAX_BYTES - code.len() + self.random.below(2);
         let mut whole = vec![0; offset];

@@ -1,8 +1,10 @@
 //! Counts of what a set of cases came to.
 
+mod accesses;
 mod bits;
 mod constants;
 mod hex;
+mod outside;
 mod parity;
 mod undefined;
 
@@ -12,6 +14,7 @@ use std::fmt::{self, Display, Formatter};
 use self::bits::Bits;
 use self::constants::{reads_constants, Constants};
 use self::hex::Hex;
+use self::outside::Outside;
 use self::parity::Parity;
 use self::undefined::Undefined;
 use crate::cases::RunCase;
@@ -36,11 +39,11 @@ const LOOPS: [&str; 3] =
     ["a place often", "back after a place equal modulo 64", "back after a place equal modulo 1024"];
 
 /// Places outside the code.
-const OUTSIDE: [&str; 6] =
+const NO_CODE: [&str; 6] =
     ["0", "FFFFFFFF", "just below the code", "home", "just past the code", "64 KiB past a place of the code"];
 
 /// Which of the places outside the code an address is.
-fn outside(address: u32, length: u32) -> Option<usize> {
+fn no_code(address: u32, length: u32) -> Option<usize> {
     let places = [0, u32::MAX, CODE_BASE - 1, HOME, CODE_BASE + length];
     let past = address.wrapping_sub(CODE_BASE + MAX_BYTES as u32) < length;
     places.iter().position(|&place| place == address).or(past.then_some(places.len()))
@@ -158,6 +161,7 @@ pub struct Coverage {
     undefined: Undefined,
     parity: Parity,
     constants: Constants,
+    outside: Outside,
     loops: Group,
     starts: Group,
     ends: Group,
@@ -206,9 +210,10 @@ impl Coverage {
             undefined: Undefined::new(),
             parity: Parity::new(),
             constants: Constants::new(),
+            outside: Outside::new(),
             loops: runs("ways of going round", &LOOPS),
-            starts: runs("starts outside the code", &OUTSIDE),
-            ends: runs("ways out of the code", &OUTSIDE),
+            starts: runs("starts outside the code", &NO_CODE),
+            ends: runs("ways out of the code", &NO_CODE),
             hex: Hex::new(),
         }
     }
@@ -228,6 +233,7 @@ impl Coverage {
         self.undefined.saw(seen);
         self.parity.saw(seen);
         self.constants.saw(seen);
+        self.outside.saw(seen);
         let count = self.forms.entry(form(seen.bytes, seen.instruction)).or_default();
         match seen.stepped {
             Ok(step) => {
@@ -239,10 +245,10 @@ impl Coverage {
         }
     }
 
-    /// Whether the instruction has a shape that never came, of the groups of M-100, M-101, M-103 and M-104.
+    /// Whether the instruction has a shape that never came, of the groups of M-100, M-101, M-103, M-104 and M-105.
     pub fn is_new(&self, seen: &Seen) -> bool {
         let flags = self.undefined.is_new(seen) || self.parity.is_new(seen);
-        self.bits.is_new(seen) || flags || self.constants.is_new(seen)
+        self.bits.is_new(seen) || flags || self.constants.is_new(seen) || self.outside.is_new(seen)
     }
 
     /// Whether the case has a number of constants, or refusals that apply together, that never came.
@@ -268,6 +274,11 @@ impl Coverage {
     /// Whether every shape of accesses at constants came.
     pub fn has_all_accesses(&self) -> bool {
         self.constants.accesses().all(Group::is_full)
+    }
+
+    /// Whether every shape of accesses around ends came that a vector line has room for.
+    pub fn has_all_ends(&self) -> bool {
+        self.outside.has_all_short()
     }
 
     /// Whether every number of constants and all refusals that apply together came.
@@ -299,7 +310,7 @@ impl Coverage {
         for (place, _) in course.loops.iter().enumerate().filter(|(_, met)| **met) {
             self.loops.count(place);
         }
-        if let (1 | 2, Some(place)) = (outcome.number, outside(outcome.address, code.len() as u32)) {
+        if let (1 | 2, Some(place)) = (outcome.number, no_code(outcome.address, code.len() as u32)) {
             let group = if outcome.steps == 0 { &mut self.starts } else { &mut self.ends };
             group.count(place);
         }
@@ -353,7 +364,8 @@ impl Coverage {
         let steps = [&self.modrm].into_iter().chain(&self.sib).chain([&self.prefixes]);
         let flags = self.undefined.groups().chain([self.parity.group()]);
         let constants = self.constants.accesses().chain(self.constants.cases());
-        steps.chain(self.bits.groups()).chain(flags).chain(constants).chain(runs).chain(self.hex.groups())
+        let accesses = constants.chain(self.outside.groups());
+        steps.chain(self.bits.groups()).chain(flags).chain(accesses).chain(runs).chain(self.hex.groups())
     }
 
     /// Forms that never finished a step, and numbers and courses that never came.

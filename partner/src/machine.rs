@@ -154,25 +154,44 @@ pub fn place(base: u32, length: usize, address: u32, width: Width) -> Option<usi
     }
 }
 
-/// The bytes of an allowed read, as a part of whichever area holds them.
-fn held<'a>(constants: &'a [u8], data: &'a [u8], address: u32, width: Width) -> Option<&'a [u8]> {
-    let part = |base, area: &'a [u8]| {
-        let at = place(base, area.len(), address, width)?;
-        Some(&area[at..at + width.bytes() as usize])
-    };
-    part(DATA_BASE, data).or_else(|| part(CONSTANTS_BASE, constants))
+/// An access that isn't allowed.
+#[derive(Clone, Copy, PartialEq, Eq, Debug)]
+pub struct Refused {
+    pub address: u32,
+    pub width: Width,
+    /// The first byte, upward from the address, outside the area meant (document 02, M-105).
+    pub outside: u32,
+}
+
+/// Place of an access in the area meant, if it lies wholly there.
+fn allowed(base: u32, length: usize, address: u32, width: Width) -> Result<usize, Refused> {
+    place(base, length, address, width).ok_or_else(|| {
+        let mut bytes = (0..width.bytes()).map(|byte| address.wrapping_add(byte));
+        let outside = bytes.find(|&byte| place(base, length, byte, Width::Byte).is_none());
+        Refused { address, width, outside: outside.expect("not all of the access lies in the area") }
+    })
+}
+
+/// The area that a read means: the one that holds its first byte; where neither does, that byte is outside of both.
+fn meant<'a>(constants: &'a [u8], data: &'a [u8], address: u32) -> (u32, &'a [u8]) {
+    match place(CONSTANTS_BASE, constants.len(), address, Width::Byte) {
+        Some(_) => (CONSTANTS_BASE, constants),
+        None => (DATA_BASE, data),
+    }
 }
 
 /// Reads a little-endian value, if the access is allowed.
-pub fn read(constants: &[u8], data: &[u8], address: u32, width: Width) -> Option<u32> {
-    let bytes = held(constants, data, address, width)?;
-    Some(bytes.iter().rev().fold(0, |value, &byte| (value << 8) | u32::from(byte)))
+pub fn read(constants: &[u8], data: &[u8], address: u32, width: Width) -> Result<u32, Refused> {
+    let (base, area) = meant(constants, data, address);
+    let at = allowed(base, area.len(), address, width)?;
+    let bytes = &area[at..at + width.bytes() as usize];
+    Ok(bytes.iter().rev().fold(0, |value, &byte| (value << 8) | u32::from(byte)))
 }
 
 /// Writes a little-endian value, if the access is allowed; only data are written.
-pub fn write(data: &mut [u8], address: u32, width: Width, value: u32) -> Option<()> {
-    let at = place(DATA_BASE, data.len(), address, width)?;
+pub fn write(data: &mut [u8], address: u32, width: Width, value: u32) -> Result<(), Refused> {
+    let at = allowed(DATA_BASE, data.len(), address, width)?;
     let count = width.bytes() as usize;
     data[at..at + count].copy_from_slice(&value.to_le_bytes()[..count]);
-    Some(())
+    Ok(())
 }

@@ -8,8 +8,8 @@ use crate::decode::{
     decode, Address, Alu, BitTest, Instruction, Loop, Operand, Operation, Refusal, Repeat, Target, Text,
 };
 use crate::machine::{
-    read, write, FlagEffect, Machine, Width, AF, AH, ALWAYS, CF, CODE_BASE, DF, EAX, EBP, ECX, EDI, EDX, ESI, ESP,
-    HOME, OF, PF, SF, ZF,
+    read, write, FlagEffect, Machine, Refused, Width, AF, AH, ALWAYS, CF, CODE_BASE, DF, EAX, EBP, ECX, EDI, EDX, ESI,
+    ESP, HOME, OF, PF, SF, ZF,
 };
 
 /// Why a step can't be taken.
@@ -19,10 +19,10 @@ pub enum Stop {
     Outside,
     Cut,
     NoSuch,
-    /// A read that isn't allowed, with its address.
-    Read(u32),
-    /// A write that isn't allowed, with its address.
-    Write(u32),
+    /// A read that isn't allowed.
+    Read(Refused),
+    /// A write that isn't allowed.
+    Write(Refused),
     Divide,
 }
 
@@ -43,7 +43,7 @@ impl Stop {
     /// The address given back for a stop at this EIP.
     pub fn address(self, eip: u32) -> u32 {
         match self {
-            Stop::Read(address) | Stop::Write(address) => address,
+            Stop::Read(refused) | Stop::Write(refused) => refused.outside,
             _ => eip,
         }
     }
@@ -143,12 +143,12 @@ impl Execution<'_> {
 
     /// Reads data or constants at an address.
     fn load(&self, address: u32, width: Width) -> Result<u32, Stop> {
-        read(self.constants, self.data, address, width).ok_or(Stop::Read(address))
+        read(self.constants, self.data, address, width).map_err(Stop::Read)
     }
 
     /// Writes data at an address.
     fn store(&mut self, address: u32, width: Width, value: u32) -> Result<(), Stop> {
-        write(self.data, address, width, value).ok_or(Stop::Write(address))
+        write(self.data, address, width, value).map_err(Stop::Write)
     }
 
     /// Reads an operand at the given width.

@@ -118,7 +118,7 @@ fn write_hex(lines: &mut Lines<impl Write>, case: &HexCase) -> io::Result<()> {
     )
 }
 
-/// Whether the case's first step has a shape of the groups of M-100, M-101, M-103 and M-104 that never came.
+/// Whether the case's first step has a shape of the groups of M-100, M-101, M-103, M-104 and M-105 that never came.
 fn adds(case: &RunCase, coverage: &Coverage) -> bool {
     let mut new = false;
     let RunCase { machine, code, constants, data, .. } = case;
@@ -173,9 +173,9 @@ fn write_missing_hex(lines: &mut Lines<impl Write>, most: u64, generator: &mut G
 }
 
 /// Writes the header and so many lines, first one finished step of each form, then steps for the shapes of M-100's,
-/// M-101's, M-103's and M-104's groups still missing, then runs for M-104's, then hex files for the shapes of M-102's,
-/// then random cases, and gives back what they cover. With another program the results are its own, but for the
-/// undefined flags.
+/// M-101's, M-103's, M-104's and M-105's groups still missing, then runs for M-104's, then hex files for the shapes of
+/// M-102's, then random cases, and gives back what they cover. With another program the results are its own, but for
+/// the undefined flags.
 pub fn write_vectors(out: &mut impl Write, other: Option<&dyn Other>, seed: u64, count: u64) -> io::Result<Coverage> {
     let mut generator = Generator::new(seed, Size::Small);
     let names: Vec<String> = generator.form_names().map(str::to_string).collect();
@@ -190,6 +190,7 @@ pub fn write_vectors(out: &mut impl Write, other: Option<&dyn Other>, seed: u64,
     written += write_missing(&mut lines, count - written, Coverage::has_all_undefined, || generator.single())?;
     written += write_missing(&mut lines, count - written, Coverage::has_all_parities, || generator.single())?;
     written += write_missing(&mut lines, count - written, Coverage::has_all_accesses, || generator.at_constants())?;
+    written += write_missing(&mut lines, count - written, Coverage::has_all_ends, || generator.at_ends())?;
     written += write_missing_cases(&mut lines, count - written, &mut generator)?;
     written += write_missing_hex(&mut lines, count - written, &mut generator)?;
     while written < count {

@@ -95,9 +95,10 @@ fn a_conditional_move_reads_even_if_its_condition_is_false() {
     // CMOVE EAX, [EBX], and with 66.
     for code in [&[0x0F, 0x44, 0x03][..], &[0x66, 0x0F, 0x44, 0x03]] {
         for flags in [0, ZF] {
-            for address in [DATA_BASE - 1, DATA_BASE + 7, 0xFFFF_FFFE, CODE_BASE] {
+            for address in [DATA_BASE - 1, DATA_BASE + 8, 0xFFFF_FFFE, CODE_BASE] {
                 stopped(code, &[(EAX, 7), (EBX, address)], flags, 8, 5, address);
             }
+            stopped(code, &[(EAX, 7), (EBX, DATA_BASE + 7)], flags, 8, 5, DATA_BASE + 8);
         }
     }
     let mut data = [1, 2, 3, 4, 5, 6];
@@ -197,8 +198,8 @@ fn bit_tests_access_one_whole_unit() {
         stopped(&word, &[(EBX, DATA_BASE), (ECX, 0x8000)], 0, 8, 5, 0x000F_F000);
         stopped(&word, &[(EBX, DATA_BASE + 2), (ECX, 0xFFEF)], 0, 8, 5, 0x000F_FFFE);
         // The bit's own byte lies in the data, but not its unit.
-        stopped(&long, &[(EBX, DATA_BASE), (ECX, 32)], 0, 7, 5, 0x0010_0004);
-        stopped(&word, &[(EBX, DATA_BASE), (ECX, 16)], 0, 3, 5, 0x0010_0002);
+        stopped(&long, &[(EBX, DATA_BASE), (ECX, 32)], 0, 7, 5, 0x0010_0007);
+        stopped(&word, &[(EBX, DATA_BASE), (ECX, 16)], 0, 3, 5, 0x0010_0003);
         stopped(&long, &[(EBX, DATA_BASE - 1), (ECX, 8)], 0, 8, 5, 0x000F_FFFF);
     }
     // BT [EBX], BX: 13h is bit 3 of the next unit.
@@ -243,8 +244,8 @@ fn an_immediate_offset_stays_in_the_unit() {
         assert_eq!((outcome.number, outcome.machine.flags, data), (0, 2, expected), "{code:02X?}");
     }
     // BT dword [EBX], 0 reads four bytes, BT word [EBX], 0 two.
-    stopped(&[0x0F, 0xBA, 0x23, 0], &[(EBX, DATA_BASE + 5)], 0, 8, 5, 0x0010_0005);
-    stopped(&[0x66, 0x0F, 0xBA, 0x23, 0], &[(EBX, DATA_BASE + 7)], 0, 8, 5, 0x0010_0007);
+    stopped(&[0x0F, 0xBA, 0x23, 0], &[(EBX, DATA_BASE + 5)], 0, 8, 5, 0x0010_0008);
+    stopped(&[0x66, 0x0F, 0xBA, 0x23, 0], &[(EBX, DATA_BASE + 7)], 0, 8, 5, 0x0010_0008);
 }
 
 #[test]
@@ -289,8 +290,8 @@ fn scans_read_memory() {
     for (opcode, index) in [(0xBC, 22), (0xBD, 25)] {
         let outcome = step(&[0x0F, opcode, 0x03], &[(EBX, DATA_BASE)], ZF, &mut data);
         assert_eq!((outcome.machine.regs[EAX], outcome.machine.flags), (index, 2));
-        stopped(&[0x0F, opcode, 0x03], &[(EBX, DATA_BASE + 2)], 0, 5, 5, DATA_BASE + 2);
-        stopped(&[0x66, 0x0F, opcode, 0x03], &[(EBX, DATA_BASE + 4)], 0, 5, 5, DATA_BASE + 4);
+        stopped(&[0x0F, opcode, 0x03], &[(EBX, DATA_BASE + 2)], 0, 5, 5, DATA_BASE + 5);
+        stopped(&[0x66, 0x0F, opcode, 0x03], &[(EBX, DATA_BASE + 4)], 0, 5, 5, DATA_BASE + 5);
     }
 }
 
@@ -390,11 +391,11 @@ fn double_shifts_read_and_write_memory() {
     for opcode in [0xA4, 0xAC] {
         for (count, flags) in [(0, STATUS), (17, 0)] {
             let code = [0x66, 0x0F, opcode, 0x0B, count];
-            stopped(&code, &[(EBX, DATA_BASE + 3)], STATUS, 4, 5, DATA_BASE + 3);
+            stopped(&code, &[(EBX, DATA_BASE + 3)], STATUS, 4, 5, DATA_BASE + 4);
             let mut data = [1, 2, 3, 4];
             let outcome = step(&code, &[(EBX, DATA_BASE + 1), (ECX, 0xFFFF)], STATUS, &mut data);
             assert_eq!((outcome.number, outcome.machine.flags, data), (0, 2 | flags, [1, 2, 3, 4]));
         }
-        stopped(&[0x0F, opcode, 0x0B, 0], &[(EBX, DATA_BASE + 1)], STATUS, 4, 5, DATA_BASE + 1);
+        stopped(&[0x0F, opcode, 0x0B, 0], &[(EBX, DATA_BASE + 1)], STATUS, 4, 5, DATA_BASE + 4);
     }
 }

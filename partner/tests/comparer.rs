@@ -86,7 +86,7 @@ fn disagreements(fault: Fault) -> (u64, u64) {
 #[test]
 fn agreement_is_found() {
     let mirror = Mirror { fault: Fault::None };
-    let comparison = compare(&mirror, 3, 60_000, 2);
+    let comparison = compare(&mirror, 3, 80_000, 2);
     assert_eq!((comparison.defined, comparison.policy), (0, 0));
     assert_eq!(comparison.coverage.holes(), Vec::<String>::new());
     let coverage = comparison.coverage;
@@ -95,11 +95,14 @@ fn agreement_is_found() {
             && coverage.has_all_undefined()
             && coverage.has_all_parities()
             && coverage.has_all_accesses()
+            && coverage.has_all_ends()
             && coverage.has_all_cases()
             && coverage.has_all_hex(),
         "{coverage}"
     );
-    assert!(coverage.to_string().contains("\n4 of 4 hex files too long for a vector line, "), "{coverage}");
+    for long in ["4 of 4 hex files too long for a vector line", "40 of 40 accesses at the ends of 65,536 data"] {
+        assert!(coverage.to_string().contains(long), "no \"{long}\" in:\n{coverage}");
+    }
 }
 
 #[test]

@@ -1,48 +1,19 @@
 //! The coverage counts accesses in data and constants and beside them, numbers of constants, and refusals together.
 
+mod counted;
+
+use counted::{case, counts};
 use partner::cases::RunCase;
 use partner::coverage::Coverage;
-use partner::machine::{Machine, ALWAYS, CODE_BASE, CONSTANTS_BASE, DATA_BASE};
+use partner::machine::{Machine, CODE_BASE, CONSTANTS_BASE, DATA_BASE};
 
 const KINDS: &str = "accesses in data and constants";
 const PAIRS: &str = "pairs of accesses";
-const ENDS: &str = "reads at the ends of constants";
 const LENGTHS: &str = "numbers of constants";
 const REFUSALS: &str = "refusals that apply together";
 
 /// Address of the first constant.
 const FIRST: u32 = CONSTANTS_BASE;
-
-/// The shapes of a group that never came.
-fn holes(coverage: &Coverage, title: &str) -> Vec<String> {
-    let report = coverage.to_string();
-    let line = report.lines().find(|line| line.contains(title)).expect("the group has a line");
-    let (_, holes) = line.split_once(", holes: ").expect("one step doesn't fill a group");
-    holes.split(", ").map(str::to_string).collect()
-}
-
-/// One step of the code with these registers, constants and data.
-fn case(code: &[u8], registers: &[(usize, u32)], constants: usize, data: usize) -> RunCase {
-    let mut regs = [0; 8];
-    for &(number, value) in registers {
-        regs[number] = value;
-    }
-    let machine = Machine { regs, eip: CODE_BASE, flags: ALWAYS };
-    RunCase { machine, code: code.to_vec(), constants: vec![1; constants], data: vec![2; data], budget: 1 }
-}
-
-/// The case counts just these shapes of the group.
-fn counts(title: &str, case: &RunCase, shapes: &[&str]) {
-    let mut coverage = Coverage::new(std::iter::empty());
-    let all = holes(&coverage, title);
-    assert!(coverage.is_new_case(case));
-    coverage.run(case, &mut case.data.clone());
-    assert!(!coverage.is_new_case(case));
-    let missing = holes(&coverage, title);
-    let came: Vec<String> = all.into_iter().filter(|shape| !missing.contains(shape)).collect();
-    assert_eq!(came, shapes, "{case:X?}");
-    assert!(!coverage.has_all_accesses() && !coverage.has_all_cases());
-}
 
 /// A read of EAX, [ESI] with so many constants and data counts just these places.
 fn reads(address: u32, constants: usize, data: usize, places: &[&str]) {
@@ -62,11 +33,15 @@ fn places_are_counted() {
     reads(FIRST - 1, 8, 8, &["one byte below the first constant gives 5"]);
     reads(FIRST + 3, 0, 8, &["where constants would be gives 5"]);
     reads(FIRST + 4, 6, 8, &["past the constants at an offset that data have gives 5"]);
-    reads(DATA_BASE + 3, 8, 6, &["past the data at an offset that constants have gives 5"]);
+    reads(DATA_BASE + 6, 16, 6, &["past the data at an offset that constants have gives 5"]);
+    reads(DATA_BASE + 5, 8, 8, &["from data over its end gives 5"]);
+    reads(DATA_BASE + 7, 8, 8, &["from data over its end gives 5"]);
+    reads(DATA_BASE - 1, 8, 8, &["from below data into it gives 5"]);
+    reads(DATA_BASE - 3, 8, 8, &["from below data into it gives 5"]);
     reads(FIRST + 0x1_0004, 8, 8, &["64 KiB past a constant gives 5"]);
     reads(0xFFFF_FFFC, 8, 8, &["up to 2^32 gives 5"]);
     reads(0xFFFF_FFFD, 8, 8, &["across 2^32 gives 5"]);
-    for address in [0, CODE_BASE, FIRST + 8, FIRST - 4, DATA_BASE + 8, FIRST + 0x1_0005] {
+    for address in [0, CODE_BASE, FIRST + 8, FIRST - 4, DATA_BASE + 8, DATA_BASE - 4, FIRST + 0x1_0005] {
         reads(address, 8, 8, &["elsewhere gives 5"]);
     }
 }
@@ -137,26 +112,6 @@ fn pairs_are_counted() {
         }
     }
     counts(PAIRS, &case(&[0xAD], &[(6, FIRST)], 4, 4), &[]);
-}
-
-#[test]
-fn ends_are_counted() {
-    for (constants, fill) in [(8, "of few:"), (65_536, "of 65,536:")] {
-        let end = FIRST + constants as u32;
-        for (code, bits, bytes) in [(&[0x8A, 0x06][..], 8, 1), (&[0x66, 0x8B, 0x06], 16, 2), (&[0x8B, 0x06], 32, 4)] {
-            for count in 0..=bytes {
-                let below = case(code, &[(6, FIRST - count)], constants, 4);
-                counts(ENDS, &below, &[&format!("{fill} {bits} bits {count} below the first")]);
-                let over = case(code, &[(6, end + count - bytes)], constants, 4);
-                counts(ENDS, &over, &[&format!("{fill} {bits} bits {count} over the last")]);
-            }
-            counts(ENDS, &case(code, &[(6, FIRST - bytes - 1)], constants, 4), &[]);
-            counts(ENDS, &case(code, &[(6, end + 1)], constants, 4), &[]);
-        }
-    }
-    // MOV [ESI], AL reads nothing; four bytes don't find room in three constants.
-    counts(ENDS, &case(&[0x88, 0x06], &[(6, FIRST)], 8, 4), &[]);
-    counts(ENDS, &case(&[0x8B, 0x06], &[(6, FIRST)], 3, 4), &[]);
 }
 
 #[test]

@@ -1,50 +1,22 @@
 //! A program that slips in reads of constants, in writes to them or in number 15 is found out.
 
+mod carry_out;
 mod common;
 
 use std::cell::RefCell;
 use std::collections::BTreeMap;
 
-use common::{Ended, Program};
+use carry_out::{program, steps, CarryOut};
+use common::Program;
 use partner::cases::{Case, Generator, Size};
 use partner::compare::{compare, Comparison, Other, STATE_WORDS};
 use partner::decode::{Instruction, Operation, Text};
 use partner::machine::{place, FlagEffect, Machine, Width, CONSTANTS_BASE, DATA_BASE, MAX_BYTES};
 use partner::run::refusals;
-use partner::step::{execute, fetch, Step, Stop};
-
-/// Carries out one instruction.
-type CarryOut = dyn Fn(&Machine, &Instruction, &[u8], &mut [u8]) -> Result<Step, Stop>;
+use partner::step::{execute, Step, Stop};
 
 /// The number that refuses a run, of all that apply in their order, with so many constants.
 type Refuse = fn(&[u32], usize) -> Option<u32>;
-
-/// Steps of instructions so carried out.
-fn steps(
-    carry_out: &CarryOut,
-    mut machine: Machine,
-    code: &[u8],
-    constants: &[u8],
-    data: &mut [u8],
-    budget: u64,
-) -> Ended {
-    for steps in 0..budget {
-        let stepped =
-            fetch(&machine, code).and_then(|(instruction, _)| carry_out(&machine, &instruction, constants, data));
-        match stepped {
-            Ok(step) => machine = step.machine,
-            Err(stop) => return (machine, steps, stop.number(), stop.address(machine.eip)),
-        }
-    }
-    (machine, budget, 0, machine.eip)
-}
-
-/// A program that carries out instructions so.
-fn program(carry_out: &CarryOut) -> impl Other + '_ {
-    Program(move |machine, code: &[u8], constants: &[u8], data: &mut [u8], budget| {
-        steps(carry_out, machine, code, constants, data, budget)
-    })
-}
 
 /// Disagreements with the other program in 5,000 cases.
 fn disagreements(other: &dyn Other) -> u64 {
@@ -112,7 +84,7 @@ fn no_slip_agrees() {
 #[test]
 fn a_read_across_the_last_constant_is_found() {
     is_found(&|machine, instruction, constants, data| match execute(machine, instruction, constants, data) {
-        Err(Stop::Read(address)) if is_constant(address, constants) => {
+        Err(Stop::Read(read)) if is_constant(read.address, constants) => {
             execute(machine, instruction, &longer(constants, constants.len() + 3), data)
         }
         stepped => stepped,
@@ -122,8 +94,8 @@ fn a_read_across_the_last_constant_is_found() {
 #[test]
 fn a_read_across_the_first_constant_is_found() {
     is_found(&|machine, instruction, constants, data| match execute(machine, instruction, constants, data) {
-        Err(Stop::Read(address))
-            if address < CONSTANTS_BASE && is_constant(address + instruction.width.bytes() - 1, constants) =>
+        Err(Stop::Read(read))
+            if read.address < CONSTANTS_BASE && is_constant(read.address + read.width.bytes() - 1, constants) =>
         {
             execute_in_one_area(machine, instruction, constants, data)
         }
@@ -144,7 +116,7 @@ fn one_constant_too_many_or_too_few_is_found() {
 #[test]
 fn a_write_let_into_constants_is_found() {
     is_found(&|machine, instruction, constants, data| match execute(machine, instruction, constants, data) {
-        Err(Stop::Write(address)) if is_constant(address, constants) => {
+        Err(Stop::Write(write)) if is_constant(write.address, constants) => {
             execute_in_one_area(machine, instruction, constants, data)
         }
         stepped => stepped,
@@ -154,7 +126,7 @@ fn a_write_let_into_constants_is_found() {
 #[test]
 fn a_destination_in_constants_that_gives_5_is_found() {
     is_found(&|machine, instruction, constants, data| match execute(machine, instruction, constants, data) {
-        Err(Stop::Write(address)) if is_constant(address, constants) => Err(Stop::Read(address)),
+        Err(Stop::Write(write)) if is_constant(write.address, constants) => Err(Stop::Read(write)),
         stepped => stepped,
     });
 }
@@ -172,11 +144,11 @@ fn a_changed_operand_in_constants_that_gives_5_is_found() {
 fn a_changed_operand_across_the_last_constant_that_gives_6_is_found() {
     is_found_at_constants(
         &|machine, instruction, constants, data| match execute(machine, instruction, constants, data) {
-            Err(Stop::Read(address)) if is_constant(address, constants) => {
+            Err(Stop::Read(read)) if is_constant(read.address, constants) => {
                 let longer = longer(constants, constants.len() + 3);
                 match execute(machine, instruction, &longer, &mut data.to_vec()) {
-                    Err(Stop::Write(written)) if written == address => Err(Stop::Write(address)),
-                    _ => Err(Stop::Read(address)),
+                    Err(Stop::Write(write)) if write.address == read.address => Err(Stop::Write(write)),
+                    _ => Err(Stop::Read(read)),
                 }
             }
             stepped => stepped,
@@ -198,7 +170,7 @@ fn constants_at_another_base_are_found() {
 fn constants_that_come_again_after_64_kib_are_found() {
     is_found_at_constants(
         &|machine, instruction, constants, data| match execute(machine, instruction, constants, data) {
-            Err(Stop::Read(address)) if is_constant(address.wrapping_sub(MAX_BYTES as u32), constants) => {
+            Err(Stop::Read(read)) if is_constant(read.address.wrapping_sub(MAX_BYTES as u32), constants) => {
                 let twice = [longer(constants, MAX_BYTES), constants.to_vec()].concat();
                 execute(machine, instruction, &twice, data)
             }
@@ -211,7 +183,7 @@ fn constants_that_come_again_after_64_kib_are_found() {
 fn reads_whose_end_wraps_are_found() {
     // At 2^32 the end comes to 0, and so lies before the end of constants; nothing is read there.
     is_found(&|machine, instruction, constants, data| match execute(machine, instruction, constants, data) {
-        Err(Stop::Read(address)) if address.checked_add(instruction.width.bytes()).is_none() => {
+        Err(Stop::Read(read)) if read.address.checked_add(read.width.bytes()).is_none() => {
             let eip = machine.eip.wrapping_add(instruction.length);
             Ok(Step { machine: Machine { eip, ..*machine }, flags: FlagEffect::default(), kept: None })
         }
@@ -219,7 +191,7 @@ fn reads_whose_end_wraps_are_found() {
     });
     // As an offset the end comes to 0 right below the first constant.
     is_found(&|machine, instruction, constants, data| match execute(machine, instruction, constants, data) {
-        Err(Stop::Read(address)) if address.wrapping_add(instruction.width.bytes()) == CONSTANTS_BASE => {
+        Err(Stop::Read(read)) if read.address.wrapping_add(read.width.bytes()) == CONSTANTS_BASE => {
             execute_in_one_area(machine, instruction, constants, data)
         }
         stepped => stepped,
@@ -263,22 +235,6 @@ fn reads_that_look_only_at_data_are_found() {
             execute(machine, instruction, constants, data)
         });
     }
-}
-
-#[test]
-fn the_first_byte_outside_as_the_address_is_found() {
-    is_found(&|machine, instruction, constants, data| match execute(machine, instruction, constants, data) {
-        Err(Stop::Read(address)) if is_constant(address, constants) => {
-            Err(Stop::Read(CONSTANTS_BASE + constants.len() as u32))
-        }
-        stepped => stepped,
-    });
-    is_found(&|machine, instruction, constants, data| match execute(machine, instruction, constants, data) {
-        Err(Stop::Read(address)) if (1..4).contains(&CONSTANTS_BASE.wrapping_sub(address)) => {
-            Err(Stop::Read(CONSTANTS_BASE))
-        }
-        stepped => stepped,
-    });
 }
 
 #[test]

@@ -1,4 +1,5 @@
-//! Document 02's M-104: reads of constants, writes that they refuse, and number 15, worked out by hand.
+//! Document 02's M-104: reads of constants, writes that they refuse, and number 15, worked out by hand; the address of a
+//! refused access is its first byte outside (M-105).
 
 use partner::machine::{Machine, AF, CF, CODE_BASE, DATA_BASE, DF, HOME, OF, PF, SF, ZF};
 use partner::run::{run, Outcome};
@@ -68,7 +69,7 @@ fn reads_of_each_width_reach_to_the_last_constant() {
     }
     // One byte over the last, and all the way past it.
     for (code, offset) in [(byte, 8), (word, 7), (word, 8), (long, 5), (long, 6), (long, 7), (long, 8)] {
-        stops(code, &[(ESI, FIRST + offset)], 5, FIRST + offset);
+        stops(code, &[(ESI, FIRST + offset)], 5, FIRST + 8);
     }
     // One byte below the first, and all the way below it.
     for (code, below) in [(byte, 1), (word, 1), (word, 2), (long, 1), (long, 2), (long, 3), (long, 4)] {
@@ -113,7 +114,7 @@ fn each_area_has_its_own_length() {
     // As many constants as there may be.
     let most = vec![7; 65_536];
     assert_eq!(read(&most, &mut [], 0x0020_FFFC), (0, CODE_BASE + 2));
-    assert_eq!(read(&most, &mut [], 0x0020_FFFD), (5, 0x0020_FFFD));
+    assert_eq!(read(&most, &mut [], 0x0020_FFFD), (5, 0x0021_0000));
     assert_eq!(read(&most, &mut [], 0x0021_0000), (5, 0x0021_0000));
 }
 
@@ -129,10 +130,10 @@ fn operands_are_read_from_constants() {
     finishes(&[0x0F, 0xB6, 0x56, 7], &[(ESI, FIRST)], &[(ESI, FIRST), (EDX, 0x88)], 0);
     finishes(&[0x0F, 0xBE, 0x56, 7], &[(ESI, FIRST)], &[(ESI, FIRST), (EDX, 0xFFFF_FF88)], 0);
     finishes(&[0x0F, 0xBF, 0x56, 6], &[(ESI, FIRST)], &[(ESI, FIRST), (EDX, 0xFFFF_8877)], 0);
-    stops(&[0x0F, 0xBF, 0x56, 7], &[(ESI, FIRST)], 5, FIRST + 7);
+    stops(&[0x0F, 0xBF, 0x56, 7], &[(ESI, FIRST)], 5, FIRST + 8);
     // MOV EAX, [00200004h] and [00200005h].
     finishes(&[0xA1, 4, 0, 0x20, 0], &[], &[(EAX, 0x8877_6655)], 0);
-    stops(&[0xA1, 5, 0, 0x20, 0], &[], 5, FIRST + 5);
+    stops(&[0xA1, 5, 0, 0x20, 0], &[], 5, FIRST + 8);
     // IMUL EAX, [ESI], 2 of a word; MUL byte [ESI].
     finishes(&[0x66, 0x6B, 0x06, 2], &[(ESI, FIRST)], &[(ESI, FIRST), (EAX, 0x4422)], 0);
     finishes(&[0xF6, 0x26], &[(ESI, FIRST), (EAX, 2)], &[(ESI, FIRST), (EAX, 0x22)], 0);
@@ -141,7 +142,7 @@ fn operands_are_read_from_constants() {
     stops(&[0xF6, 0x36], &[(ESI, FIRST), (EAX, 0x4097)], 7, CODE_BASE);
     // CMOVE EDX, [ESI] with its condition not met reads all the same.
     finishes(&[0x0F, 0x44, 0x16], &[(ESI, FIRST + 4)], &[(ESI, FIRST + 4)], 0);
-    stops(&[0x0F, 0x44, 0x16], &[(ESI, FIRST + 5)], 5, FIRST + 5);
+    stops(&[0x0F, 0x44, 0x16], &[(ESI, FIRST + 5)], 5, FIRST + 8);
     // BSF and BSR EDX, [ESI].
     finishes(&[0x0F, 0xBC, 0x16], &[(ESI, FIRST)], &[(ESI, FIRST), (EDX, 0)], 0);
     finishes(&[0x0F, 0xBD, 0x16], &[(ESI, FIRST)], &[(ESI, FIRST), (EDX, 30)], 0);
@@ -205,9 +206,10 @@ fn a_changed_operand_in_constants_is_read_and_then_gives_6() {
             stops(code, &[(EBX, inside)], 6, inside);
         }
         // Where the read itself isn't allowed.
-        for beside in [FIRST - 4, FIRST - 1, FIRST + 5, FIRST + 8, 0xFFFF_FFFD] {
+        for beside in [FIRST - 4, FIRST - 1, FIRST + 8, 0xFFFF_FFFD] {
             stops(code, &[(EBX, beside)], 5, beside);
         }
+        stops(code, &[(EBX, FIRST + 5)], 5, FIRST + 8);
     }
     // SHLD [EBX], AX, 17, which keeps its destination, still writes it.
     stops(&[0x66, 0x0F, 0xA4, 0x03, 17], &[(EBX, FIRST)], 6, FIRST);
@@ -224,17 +226,17 @@ fn the_stack_is_read_in_constants_and_not_written() {
     // POP EDX, and POP ESP.
     finishes(&[0x5A], &[(ESP, FIRST + 4)], &[(ESP, FIRST + 8), (EDX, 0x8877_6655)], 0);
     finishes(&[0x5C], &[(ESP, FIRST)], &[(ESP, 0x4433_2211)], 0);
-    stops(&[0x5A], &[(ESP, FIRST + 5)], 5, FIRST + 5);
+    stops(&[0x5A], &[(ESP, FIRST + 5)], 5, FIRST + 8);
     stops(&[0x5A], &[(ESP, FIRST - 1)], 5, FIRST - 1);
     // LEAVE.
     finishes(&[0xC9], &[(EBP, FIRST + 4)], &[(EBP, 0x8877_6655), (ESP, FIRST + 8)], 0);
-    stops(&[0xC9], &[(EBP, FIRST + 5)], 5, FIRST + 5);
+    stops(&[0xC9], &[(EBP, FIRST + 5)], 5, FIRST + 8);
     // RET and RET 4 to an address in constants; a block so ends at home.
     for (code, released) in [(&[0xC3][..], 0), (&[0xC2, 4, 0], 4)] {
         let outcome = step(code, &[(ESP, FIRST + 4)], &mut []);
         assert_eq!((outcome.number, outcome.machine.eip), (0, 0x8877_6655));
         assert_eq!(outcome.machine.regs[ESP], FIRST + 8 + released);
-        stops(code, &[(ESP, FIRST + 5)], 5, FIRST + 5);
+        stops(code, &[(ESP, FIRST + 5)], 5, FIRST + 8);
     }
     let home = run(machine(&[(ESP, FIRST)], 0), &[0xC3], &HOME.to_le_bytes(), &mut [], 9);
     assert_eq!((home.number, home.address, home.steps), (1, HOME, 1));
@@ -254,10 +256,10 @@ fn targets_and_pushed_words_are_read_from_constants_first() {
     for code in [&[0xFF, 0x13][..], &[0xFF, 0x33]] {
         stops(code, &[(EBX, FIRST), (ESP, FIRST + 8)], 6, FIRST + 4);
         stops(code, &[(EBX, DATA_BASE), (ESP, FIRST + 8)], 6, FIRST + 4);
-        stops(code, &[(EBX, FIRST + 5), (ESP, FIRST + 8)], 5, FIRST + 5);
-        stops(code, &[(EBX, FIRST + 5), (ESP, DATA_BASE + 4)], 5, FIRST + 5);
+        stops(code, &[(EBX, FIRST + 5), (ESP, FIRST + 8)], 5, FIRST + 8);
+        stops(code, &[(EBX, FIRST + 5), (ESP, DATA_BASE + 4)], 5, FIRST + 8);
     }
-    stops(&[0xFF, 0x23], &[(EBX, FIRST + 5)], 5, FIRST + 5);
+    stops(&[0xFF, 0x23], &[(EBX, FIRST + 5)], 5, FIRST + 8);
 }
 
 #[test]
@@ -270,7 +272,7 @@ fn string_instructions_read_constants_and_do_not_write_them() {
     stops(&[0xA5], &[(ESI, FIRST), (EDI, FIRST)], 6, FIRST);
     stops(&[0xA5], &[(ESI, DATA_BASE), (EDI, FIRST + 4)], 6, FIRST + 4);
     stops(&[0xA5], &[(ESI, FIRST + 4), (EDI, FIRST + 5)], 6, FIRST + 5);
-    stops(&[0xA5], &[(ESI, FIRST + 5), (EDI, FIRST + 4)], 5, FIRST + 5);
+    stops(&[0xA5], &[(ESI, FIRST + 5), (EDI, FIRST + 4)], 5, FIRST + 8);
     // STOSB, STOSW, STOSD.
     for code in [&[0xAA][..], &[0x66, 0xAB], &[0xAB]] {
         for place in [FIRST, FIRST + 4, FIRST + 8, FIRST - 1] {
@@ -280,11 +282,11 @@ fn string_instructions_read_constants_and_do_not_write_them() {
     // LODSB and LODSD.
     finishes(&[0xAC], &[(ESI, FIRST + 7)], &[(ESI, FIRST + 8), (EAX, 0x88)], 0);
     finishes(&[0xAD], &[(ESI, FIRST)], &[(ESI, FIRST + 4), (EAX, 0x4433_2211)], 0);
-    stops(&[0xAD], &[(ESI, FIRST + 5)], 5, FIRST + 5);
+    stops(&[0xAD], &[(ESI, FIRST + 5)], 5, FIRST + 8);
     // SCASB of 22h with AL 11h: 11h - 22h = EFh borrows and has seven ones.
     let after = [(EDI, FIRST + 2), (EAX, 0x11)];
     finishes(&[0xAE], &[(EDI, FIRST + 1), (EAX, 0x11)], &after, SF | AF | CF);
-    stops(&[0xAF], &[(EDI, FIRST + 5)], 5, FIRST + 5);
+    stops(&[0xAF], &[(EDI, FIRST + 5)], 5, FIRST + 8);
     // CMPSB of 88h in constants and 5Ah in data: 2Eh, which overflows, borrows in the low digit and has four ones.
     let places = [(ESI, FIRST + 7), (EDI, DATA_BASE)];
     finishes(&[0xA6], &places, &[(ESI, FIRST + 8), (EDI, DATA_BASE + 1)], OF | AF | PF);

@@ -1,4 +1,4 @@
-//! The cases of document 01's "Both sides of each edge".
+//! The cases of document 01's "Both sides of each edge", as document 02 (M-101, M-105) leaves them.
 
 use partner::check::{check, Verdict};
 use partner::decode::{decode, Refusal};
@@ -116,7 +116,7 @@ fn case_12_reads_at_the_data_s_end() {
     let inside = run(machine(&[(6, 0x0010_0004)], 2), &[0x8B, 0x06], &[], &mut data, 1);
     assert_eq!((inside.number, inside.machine.regs[0]), (0, 0x0807_0605));
     let across = run(machine(&[(6, 0x0010_0005)], 2), &[0x8B, 0x06], &[], &mut data, 1);
-    assert_eq!((across.number, across.address, across.steps), (5, 0x0010_0005, 0));
+    assert_eq!((across.number, across.address, across.steps), (5, 0x0010_0008, 0));
 }
 
 #[test]

@@ -261,7 +261,7 @@ fn divisions_at_their_limits() {
     assert_eq!(idiv(7, 0).number, 7);
     // A divisor that can't be read comes before the divide error.
     let outcome = step(&[0xF7, 0x33], machine(&[(EBX, DATA_BASE)], 0), &mut [0; 3]);
-    assert_eq!((outcome.number, outcome.address), (5, DATA_BASE));
+    assert_eq!((outcome.number, outcome.address), (5, DATA_BASE + 3));
 }
 
 #[test]

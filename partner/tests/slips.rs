@@ -1,12 +1,13 @@
 //! A program that slips in a bit test, scan, double shift or conditional move, in undefined flags or in parity, is found out.
 
+mod carry_out;
 mod common;
 
-use common::{Ended, Program};
+use carry_out::{program, CarryOut};
 use partner::compare::compare;
 use partner::decode::{BitTest, DoubleShift, Instruction, Operand, Operation, Scan, Shift};
 use partner::machine::{Machine, Width, ECX, PF, STATUS};
-use partner::step::{condition, execute, fetch, Step, Stop};
+use partner::step::{condition, execute, Step};
 
 /// Puts another operation into the instruction's place.
 type Slip = fn(&Machine, Width, Operation) -> Operation;
@@ -14,35 +15,10 @@ type Slip = fn(&Machine, Width, Operation) -> Operation;
 /// Gives a finished step's flags another value.
 type FlagSlip = fn(&Machine, &Instruction, &Step) -> u32;
 
-/// Carries out one instruction.
-type CarryOut = dyn Fn(&Machine, &Instruction, &[u8], &mut [u8]) -> Result<Step, Stop>;
-
-/// Steps of instructions so carried out.
-fn steps(
-    carry_out: &CarryOut,
-    mut machine: Machine,
-    code: &[u8],
-    constants: &[u8],
-    data: &mut [u8],
-    budget: u64,
-) -> Ended {
-    for steps in 0..budget {
-        let stepped =
-            fetch(&machine, code).and_then(|(instruction, _)| carry_out(&machine, &instruction, constants, data));
-        match stepped {
-            Ok(step) => machine = step.machine,
-            Err(stop) => return (machine, steps, stop.number(), stop.address(machine.eip)),
-        }
-    }
-    (machine, budget, 0, machine.eip)
-}
-
-/// Defined and policy disagreements with a program that carries out instructions so, in 5,000 cases.
+/// Defined and policy disagreements with a program that carries out instructions so, in 6,000 cases.
 fn disagreements(carry_out: &CarryOut) -> (u64, u64) {
-    let program = Program(|machine, code: &[u8], constants: &[u8], data: &mut [u8], budget| {
-        steps(carry_out, machine, code, constants, data, budget)
-    });
-    let comparison = compare(&program, 3, 5_000, 0);
+    let program = program(carry_out);
+    let comparison = compare(&program, 3, 6_000, 0);
     (comparison.defined, comparison.policy)
 }
 

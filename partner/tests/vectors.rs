@@ -12,6 +12,7 @@ fn lines_have_the_header_s_columns_and_cover_everything() {
             && coverage.has_all_undefined()
             && coverage.has_all_parities()
             && coverage.has_all_accesses()
+            && coverage.has_all_ends()
             && coverage.has_all_cases()
             && coverage.has_all_hex(),
         "{coverage}"
@@ -30,7 +31,7 @@ fn lines_have_the_header_s_columns_and_cover_everything() {
 fn constants_stand_at_the_end_of_a_run_s_line() {
     let mut out = Vec::new();
     let coverage = write_vectors(&mut out, None, 1999, 3000).expect("writing to memory succeeds");
-    assert!(coverage.has_all_accesses() && coverage.has_all_cases(), "{coverage}");
+    assert!(coverage.has_all_accesses() && coverage.has_all_ends() && coverage.has_all_cases(), "{coverage}");
     assert_eq!(coverage.holes(), Vec::<String>::new());
     assert!(HEADER.ends_with("\tarea_out\tconstants_len\tconstants"));
     let text = String::from_utf8(out).expect("the lines are text");

@@ -176,12 +176,12 @@ fn partner_run(case: &RunCase, code: &[u8]) -> Ours {
     let end = loop {
         let (instruction, _) = fetch(&machine, code).expect("every slot holds an instruction");
         match execute(&machine, &instruction, &case.constants, &mut data) {
-            Err(Stop::Read(address)) => {
-                refused = Some(address);
+            Err(Stop::Read(access)) => {
+                refused = Some(access.address);
                 break End::Read;
             }
-            Err(Stop::Write(address)) => {
-                refused = Some(address);
+            Err(Stop::Write(access)) => {
+                refused = Some(access.address);
                 break End::Write;
             }
             Err(_) => break End::Divide,

@@ -37,17 +37,20 @@ const END_BYTES: usize = 16;
 /// Most constants of small cases that aren't all 0.
 const SHORT: usize = 64;
 
-/// The lent areas of a run's operands, and in how many of a hundred cases an access is aimed at the constants.
+/// The lent areas of a run's operands, and what accesses are aimed at.
 pub(super) struct Areas {
     pub(super) constants: Vec<u8>,
     pub(super) data: Vec<u8>,
+    /// In how many of a hundred cases an access is aimed around an end of an area.
+    pub(super) ends: usize,
+    /// In how many of a hundred other cases it is aimed at the constants.
     pub(super) share: usize,
 }
 
 impl Areas {
     /// Gives the bytes of an access a value, if they lie wholly in one of the areas.
     pub(super) fn plant(&mut self, address: u32, width: Width, value: u32) {
-        if write(&mut self.data, address, width, value).is_none() {
+        if write(&mut self.data, address, width, value).is_err() {
             // As if the constants lay where data do.
             let moved = address.wrapping_sub(CONSTANTS_BASE - DATA_BASE);
             let _ = write(&mut self.constants, moved, width, value);
@@ -67,10 +70,10 @@ impl Generator {
         }
     }
 
-    /// Areas with data of this length; few accesses are aimed at the constants.
+    /// Areas with data of this length; few accesses are aimed at the constants, none around all ends.
     pub(super) fn areas(&mut self, length: usize) -> Areas {
         let constants = self.constants_length();
-        Areas { constants: self.bytes(constants), data: self.bytes(length), share: 10 }
+        Areas { constants: self.bytes(constants), data: self.bytes(length), ends: 0, share: 10 }
     }
 
     /// So many constants, all 0 but at their start and, in large cases, at their end.
@@ -109,14 +112,19 @@ impl Generator {
 
     /// An instruction whose accesses are mostly aimed at constants, at times at as many as there may be.
     pub fn at_constants(&mut self) -> RunCase {
-        let kind = self.random.pick(&KINDS);
-        let form = self.form_with(kind);
         let length = self.data_length();
         let mut areas = Areas { share: 85, ..self.areas(length) };
         if self.random.percent(15) {
             let most = self.random.pick(&[MAX_BYTES - 1, MAX_BYTES, MAX_BYTES, MAX_BYTES]);
             areas.constants = self.long_constants(most);
         }
+        self.accessing(&KINDS, areas)
+    }
+
+    /// An instruction of one of these kinds with these areas; in small cases only few constants aren't 0.
+    pub(super) fn accessing(&mut self, kinds: &[&str], areas: Areas) -> RunCase {
+        let kind = self.random.pick(kinds);
+        let form = self.form_with(kind);
         let mut case = self.single_in(form, areas);
         if self.size == Size::Small {
             case.constants.iter_mut().skip(SHORT).for_each(|byte| *byte = 0);
