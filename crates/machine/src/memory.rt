@@ -70,10 +70,13 @@ fn past(base: u32, len: usize) -> u32
 fn first_outside(base: u32, len: usize, a: u32) -> u32
     ensures { λ r. ⌜ r ≡ firstOutside base len a ⌝ }
 {
-    match locate(base, len, 1, a) {
-        Located::At(_) => past(base, len),
-        Located::Outside => a,
+    if a < base {
+        return a;
     }
+    if len <= (a - base) as usize {
+        return a;
+    }
+    past(base, len)
 }
 
 // A byte as a number.
