@@ -32,8 +32,10 @@ extern "C" {
  *    2  EIP is outside the code; address: EIP.
  *    3  the code ends inside the instruction at EIP; address: EIP.
  *    4  there is no such instruction as at EIP; address: EIP.
- *    5  a read that lies neither wholly in the data nor wholly in the constants; address: where it was to read.
- *    6  a write that doesn't lie wholly in the data; address: where it was to write.
+ *    5  a read that lies neither wholly in the data nor wholly in the constants; address: of its bytes, from the lowest
+ *       address up, the first outside the one of the two that holds its first byte, or its first byte if neither does.
+ *    6  a write that doesn't lie wholly in the data; address: of its bytes, from the lowest address up, the first outside
+ *       the data.
  *    7  a divisor of 0, or a quotient that doesn't fit; address: EIP.
  *   10  the code has no byte, or more than 65,536.
  *   11  the data has more than 65,536 bytes.

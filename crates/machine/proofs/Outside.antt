@@ -110,7 +110,7 @@ module _ (constants d : List ℕ) (long : length d ≤ 65_536) (long′ : length
   -- it lies in neither area
   pub unread-outside : {a b : ℕ} → Unread constants d a b → Readable constants d 1 b → ⊥
   unread-outside (of-data l f) (in-data there) = f .outside there
-  unread-outside {a} {b} (of-data l f) (in-constants there) = absurd (by (ltb a b) refl)
+  unread-outside {a} {b} (of-data l f) (in-constants there) = by (ltb a b) refl
     where
       by : (x : Bool) → ltb a b ≡ x → ⊥
       by true h =
