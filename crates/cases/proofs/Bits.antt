@@ -51,7 +51,7 @@ unfolding All Holds Gives bit-tests bit-scans double-shifts conditional-moves on
     Scans.scanValue Scans.scanFlags
     Doubles.doubleMoved Doubles.lastOut Doubles.overflowAfter Doubles.flagsAfter Doubles.doubleValue Doubles.doubleFlags
     Registers.register Registers.withRegister Registers.withEip Registers.withFlags Registers.holder Registers.lowest Registers.bitsFrom Registers.part Registers.replaced Registers.withPart
-    Memory.dataBase Memory.constantsBase Memory.holds Memory.firstOutside Memory.partOf Memory.firstUnread Memory.readOf Memory.numbered Memory.loadOf Memory.storedOf Memory.storeOf
+    Memory.dataBase Memory.constantsBase Memory.holds Memory.firstOutside Memory.firstUnread Memory.partOf Memory.readOf Memory.numbered Memory.loadOf Memory.storedOf Memory.storeOf
     Opcodes.ruleOf
     Grammar.sibLength Grammar.bareLength
     Answers.displaced

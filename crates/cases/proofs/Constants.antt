@@ -64,7 +64,7 @@ unfolding All Holds Gives reads operands stacks strings unread unwritten others 
     Values.masked Values.shifted Values.shiftValue
     Changes.shiftFlags
     Registers.register Registers.withRegister Registers.withEip Registers.withFlags Registers.holder Registers.lowest Registers.bitsFrom Registers.part Registers.replaced Registers.withPart
-    Memory.dataBase Memory.constantsBase Memory.holds Memory.firstOutside Memory.partOf Memory.firstUnread Memory.readOf Memory.numbered Memory.loadOf Memory.storedOf Memory.storeOf
+    Memory.dataBase Memory.constantsBase Memory.holds Memory.firstOutside Memory.firstUnread Memory.partOf Memory.readOf Memory.numbered Memory.loadOf Memory.storedOf Memory.storeOf
     Opcodes.ruleOf
     Grammar.sibLength Grammar.bareLength
     Answers.displaced

@@ -56,7 +56,7 @@ unfolding All Holds Gives cases-1-to-12 ones codeBase
     Changes.carryAfter Changes.overflowOnce Changes.overflowAfter Changes.rotateFlags Changes.changed Changes.flagsAfter Changes.shiftFlags
     Divide.joined Divide.divided Divide.dividedUnsigned Divide.dividedSigned Divide.unsignedDivision Divide.signedDivision
     Registers.register Registers.withRegister Registers.withEip Registers.withFlags Registers.holder Registers.lowest Registers.bitsFrom Registers.part Registers.replaced Registers.withPart
-    Memory.dataBase Memory.constantsBase Memory.holds Memory.firstOutside Memory.partOf Memory.firstUnread Memory.readOf Memory.numbered Memory.loadOf Memory.storedOf Memory.storeOf
+    Memory.dataBase Memory.constantsBase Memory.holds Memory.firstOutside Memory.firstUnread Memory.partOf Memory.readOf Memory.numbered Memory.loadOf Memory.storedOf Memory.storeOf
     Opcodes.ruleOf
     Grammar.sibLength Grammar.bareLength
     Answers.displaced

@@ -8,7 +8,7 @@ use Rattle.cases.specs.Constants.{stacked, four, looks, writes, misses}
 -- reads: 8B 06 of 4 bytes, 66 8B 06 of 2, 8A 06 of 1
 unfoldable pub unread : List Case
 unread =
-    -- from one byte below data: this byte; all of data are read; from their third and their last byte on: their end; from there and from one byte past it: the same
+    -- from one byte below data: this byte; all of data are read; from their third and their last byte on: their end; from there and from one byte past it on: this byte
     run (misses (0x8B ∷ 0x06 ∷ []) (pointing 0 0 0 0x000F_FFFF 0) 5 0x000F_FFFF)
     ∷ run (looks (0x8B ∷ 0x06 ∷ []) (pointing 0 0 0 0x0010_0000 0) (pointing 2 0xDDCC_BBAA 0 0x0010_0000 0))
     ∷ run (misses (0x8B ∷ 0x06 ∷ []) (pointing 0 0 0 0x0010_0002 0) 5 0x0010_0004)
@@ -38,7 +38,7 @@ unread =
 -- writes of EAX = 44332211h: 89 06 of 4 bytes, 66 89 06 of 2, 88 06 of 1
 unfoldable pub unwritten : List Case
 unwritten =
-    -- from one byte below data: this byte; all of data are written; from their second and their last byte on: their end; from there: the same
+    -- from one byte below data: this byte; all of data are written; from their second and their last byte on: their end; from there on: this byte
     run (misses (0x89 ∷ 0x06 ∷ []) (pointing 0 0x4433_2211 0 0x000F_FFFF 0) 6 0x000F_FFFF)
     ∷ run (writes (0x89 ∷ 0x06 ∷ []) (pointing 0 0x4433_2211 0 0x0010_0000 0) (pointing 2 0x4433_2211 0 0x0010_0000 0) (0x11 ∷ 0x22 ∷ 0x33 ∷ 0x44 ∷ []))
     ∷ run (misses (0x89 ∷ 0x06 ∷ []) (pointing 0 0x4433_2211 0 0x0010_0001 0) 6 0x0010_0004)

@@ -19,7 +19,7 @@ use Rattle.machine.specs.declared.memory.Loaded.{Loaded}
 use Rattle.machine.specs.declared.memory.Loaded.the-variants.{Value}
 use Rattle.machine.specs.declared.memory.Stored.{Stored}
 use Rattle.machine.specs.declared.memory.Stored.the-variants.{Done}
-use Rattle.machine.specs.Memory.{dataBase, constantsBase, holds, placeOf, firstOutside, partOf, firstUnread, Read, part, outside, readOf, held, numbered, loadOf, storedOf, storeOf}
+use Rattle.machine.specs.Memory.{dataBase, constantsBase, holds, placeOf, firstOutside, firstUnread, partOf, Read, part, outside, readOf, held, numbered, loadOf, storedOf, storeOf}
 
 module _ (base len n a : ℕ) where
   -- an area holds an access that lies in it

@@ -13,7 +13,7 @@ use Rattle.machine.specs.declared.memory.Loaded.{Loaded}
 use Rattle.machine.specs.declared.memory.Loaded.the-variants.{Value}
 use Rattle.machine.specs.declared.memory.Stored.{Stored}
 use Rattle.machine.specs.declared.memory.Stored.the-variants.{Done}
-use Rattle.machine.specs.Memory.{dataBase, constantsBase, holds, firstOutside, partOf, firstUnread, numbered, loadOf, storedOf}
+use Rattle.machine.specs.Memory.{dataBase, constantsBase, holds, firstOutside, firstUnread, partOf, numbered, loadOf, storedOf}
 use Rattle.machine.specs.Allowed.{Lies, Readable, in-data, in-constants, Writable}
 use Rattle.machine.proofs.Access.{is-held, is-within, first-itself, read-data, read-constants, read-outside, stored-held, stored-outside}
 

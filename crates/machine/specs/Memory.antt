@@ -35,14 +35,14 @@ placeOf base len n a = cond (holds base len n a) (At (a - base)) Located.Outside
 unfoldable pub firstOutside : ℕ → ℕ → ℕ → ℕ
 firstOutside base len a = cond (holds base len 1 a) ((base + len) % 2 ^ 32) a
 
--- the bytes of an access that an area at a base holds
-unfoldable pub partOf : ℕ → List ℕ → ℕ → ℕ → List ℕ
-partOf base area n a = take n (drop (a - base) area)
-
 -- the same for a read: of the area that holds its first byte; where neither does, this byte itself
 unfoldable pub firstUnread : List ℕ → List ℕ → ℕ → ℕ
 firstUnread constants d a =
     cond (holds dataBase (length d) 1 a) (firstOutside dataBase (length d) a) (firstOutside constantsBase (length constants) a)
+
+-- the bytes of an access that an area at a base holds
+unfoldable pub partOf : ℕ → List ℕ → ℕ → ℕ → List ℕ
+partOf base area n a = take n (drop (a - base) area)
 
 -- what a read comes to: its bytes, or the first address that is outside
 pub data Read : Type 0 where
