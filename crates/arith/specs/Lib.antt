@@ -3,3 +3,4 @@ pub mod Sums
 pub mod Binary
 pub mod Single
 pub mod Undefined
+pub mod Worked

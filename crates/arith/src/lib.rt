@@ -1,10 +1,13 @@
-// Sums, differences and logic at a size: value and flags, for operations of two operands and of one.
+// Sums, differences and logic at a size: the value with the word of its flags, for operations of two operands and of one.
 ghost use mathlib.Core.Path.{_≡_};
-ghost use Rattle.width.specs.Numbers.{Is};
+ghost use Prim.Native.Nat.{_<_, _^_};
+ghost use lib.IntN.{pos, subℕ};
+ghost use Rattle.width.specs.Numbers.{Is, rest, outside};
+ghost use Rattle.flags.specs.Word as Word;
 ghost use Rattle.arith.specs.Sums.{sum, difference, valueOf, carries, adjusts, overflows, flagsOf};
 ghost use Rattle.arith.specs.Binary.{binaryValue, binaryFlags, logicFlags, sumFlags, differenceFlags};
 ghost use Rattle.arith.specs.Single.{singleValue, singleFlags};
-use flags::Flags;
+ghost use Rattle.arith.specs.Worked.{Works};
 use width::Size;
 
 // The operations of two operands, in the order of their opcodes.
@@ -25,6 +28,12 @@ pub enum Single {
     Dec,
     Not,
     Neg,
+}
+
+// A value, and the word of the flags that come with it.
+pub struct Worked {
+    pub value: u32,
+    pub word: u32,
 }
 
 // The sum at the size, with a carry.
@@ -69,13 +78,23 @@ fn difference_adjusts(c: bool, a: u32, b: u32) -> bool
     width::beyond(16, (a % 16) as u64, (b % 16) as u64 + width::bit(c))
 }
 
+// Is p - q no signed number of the size?
+fn misfits(w: Size, p: u64, q: u64) -> bool
+    requires { ⌜ p < 2 ^ 34 ⌝ }
+    requires { ⌜ q < 2 ^ 34 ⌝ }
+    ensures { λ r. ⌜ r ≡ outside w (subℕ p q) ⌝ }
+{
+    let h = width::half(w) as u64;
+    p + h < q || q + h <= p
+}
+
 // OF after a sum: the signed result lies outside the size's signed numbers.
 fn sum_overflows(c: bool, w: Size, a: u32, b: u32) -> bool
     ensures { λ r. ⌜ r ≡ overflows (sum c) w a b ⌝ }
 {
     let x = width::rank(w, a);
     let y = width::rank(w, b);
-    width::outside(w, x + y + width::bit(c), width::modulus(w))
+    misfits(w, x + y + width::bit(c), width::modulus(w))
 }
 
 // OF after a difference.
@@ -84,112 +103,98 @@ fn difference_overflows(c: bool, w: Size, a: u32, b: u32) -> bool
 {
     let x = width::rank(w, a);
     let y = width::rank(w, b);
-    width::outside(w, x, y + width::bit(c))
+    misfits(w, x, y + width::bit(c))
 }
 
-// The flags after a sum with a carry, where CF is as given.
-fn sum_flags(c: bool, w: Size, a: u32, b: u32, cf: bool, old: Flags) -> Flags
-    ensures { λ r. ⌜ r ≡ flagsOf (sum c) w a b cf old ⌝ }
+// A sum with a carry, and the word of its flags, where CF is as given.
+fn sum_worked(c: bool, w: Size, a: u32, b: u32, cf: bool, word: u32) -> Worked
+    ensures { λ r. ⌜ Works (valueOf (sum c) w a b) (flagsOf (sum c) w a b cf (Word.flagsOf word)) r ⌝ }
 {
     let v = sum(c, w, a, b);
-    flags::resulting(
-        w,
-        v,
-        cf,
-        sum_adjusts(c, a, b),
-        sum_overflows(c, w, a, b),
-        old,
-    )
+    Worked {
+        value: v,
+        word: flags::resulting_word(
+            w,
+            v,
+            cf,
+            sum_adjusts(c, a, b),
+            sum_overflows(c, w, a, b),
+            word,
+        ),
+    }
 }
 
-// The flags after a difference with a borrow, where CF is as given.
-fn difference_flags(c: bool, w: Size, a: u32, b: u32, cf: bool, old: Flags) -> Flags
-    ensures { λ r. ⌜ r ≡ flagsOf (difference c) w a b cf old ⌝ }
+// A difference with a borrow, and the word of its flags, where CF is as given.
+fn difference_worked(c: bool, w: Size, a: u32, b: u32, cf: bool, word: u32) -> Worked
+    ensures { λ r. ⌜ Works (valueOf (difference c) w a b) (flagsOf (difference c) w a b cf (Word.flagsOf word)) r ⌝ }
 {
     let v = difference(c, w, a, b);
-    flags::resulting(
-        w,
-        v,
-        cf,
-        difference_adjusts(c, a, b),
-        difference_overflows(c, w, a, b),
-        old,
-    )
-}
-
-// The flags after a logic operation with the result v.
-fn logic_flags(w: Size, v: u32, old: Flags) -> Flags
-    ensures { λ r. ⌜ r ≡ logicFlags w v old ⌝ }
-{
-    flags::resulting(w, v, false, flags::undefined(old.af), false, old)
-}
-
-// The flags after a sum with a carry.
-fn added(c: bool, w: Size, a: u32, b: u32, old: Flags) -> Flags
-    ensures { λ r. ⌜ r ≡ sumFlags c w a b old ⌝ }
-{
-    sum_flags(c, w, a, b, sum_carries(c, w, a, b), old)
-}
-
-// The flags after a difference with a borrow.
-fn subtracted(c: bool, w: Size, a: u32, b: u32, old: Flags) -> Flags
-    ensures { λ r. ⌜ r ≡ differenceFlags c w a b old ⌝ }
-{
-    difference_flags(c, w, a, b, difference_carries(c, w, a, b), old)
-}
-
-// The value of an operation of two operands; c is CF.
-pub fn binary_value(op: Binary, w: Size, a: u32, b: u32, c: bool) -> u32
-    ensures { λ r. ⌜ Is w (binaryValue op w a b c) r ⌝ }
-{
-    match op {
-        Binary::Add => sum(false, w, a, b),
-        Binary::Or => width::low(w, a as u64 | b as u64),
-        Binary::Adc => sum(c, w, a, b),
-        Binary::Sbb => difference(c, w, a, b),
-        Binary::And => width::low(w, a as u64 & b as u64),
-        Binary::Sub => difference(false, w, a, b),
-        Binary::Xor => width::low(w, a as u64 ^ b as u64),
-        Binary::Cmp => difference(false, w, a, b),
+    Worked {
+        value: v,
+        word: flags::resulting_word(
+            w,
+            v,
+            cf,
+            difference_adjusts(c, a, b),
+            difference_overflows(c, w, a, b),
+            word,
+        ),
     }
 }
 
-// The flags after an operation of two operands.
-pub fn binary_flags(op: Binary, w: Size, a: u32, b: u32, old: Flags) -> Flags
-    ensures { λ r. ⌜ r ≡ binaryFlags op w a b old ⌝ }
+// A sum with a carry, and the word of its flags.
+fn added(c: bool, w: Size, a: u32, b: u32, word: u32) -> Worked
+    ensures { λ r. ⌜ Works (valueOf (sum c) w a b) (sumFlags c w a b (Word.flagsOf word)) r ⌝ }
 {
-    match op {
-        Binary::Add => added(false, w, a, b, old),
-        Binary::Or => logic_flags(w, width::low(w, a as u64 | b as u64), old),
-        Binary::Adc => added(old.cf, w, a, b, old),
-        Binary::Sbb => subtracted(old.cf, w, a, b, old),
-        Binary::And => logic_flags(w, width::low(w, a as u64 & b as u64), old),
-        Binary::Sub => subtracted(false, w, a, b, old),
-        Binary::Xor => logic_flags(w, width::low(w, a as u64 ^ b as u64), old),
-        Binary::Cmp => subtracted(false, w, a, b, old),
+    sum_worked(c, w, a, b, sum_carries(c, w, a, b), word)
+}
+
+// A difference with a borrow, and the word of its flags.
+fn subtracted(c: bool, w: Size, a: u32, b: u32, word: u32) -> Worked
+    ensures { λ r. ⌜ Works (valueOf (difference c) w a b) (differenceFlags c w a b (Word.flagsOf word)) r ⌝ }
+{
+    difference_worked(c, w, a, b, difference_carries(c, w, a, b), word)
+}
+
+// The rest of v at the size as the result of a logic operation, and the word of its flags.
+fn logic(w: Size, v: u64, word: u32) -> Worked
+    ensures { λ r. ⌜ Works (rest w (pos v)) (logicFlags w (rest w (pos v)) (Word.flagsOf word)) r ⌝ }
+{
+    let r = width::low(w, v);
+    let af = flags::undefined(flags::unpack(word).af);
+    Worked {
+        value: r,
+        word: flags::resulting_word(w, r, false, af, false, word),
     }
 }
 
-// The value of an operation of one operand.
-pub fn single_value(op: Single, w: Size, a: u32) -> u32
-    ensures { λ r. ⌜ Is w (singleValue op w a) r ⌝ }
+// What an operation of two operands gives, and the word of the flags after it.
+pub fn binary_worked(op: Binary, w: Size, a: u32, b: u32, word: u32) -> Worked
+    ensures { λ r. ⌜ Works (binaryValue op w a b ((Word.flagsOf word) .cf)) (binaryFlags op w a b (Word.flagsOf word)) r ⌝ }
 {
     match op {
-        Single::Inc => sum(false, w, a, 1),
-        Single::Dec => difference(false, w, a, 1),
-        Single::Not => width::low(w, 0xFFFF_FFFF) - width::low(w, a as u64),
-        Single::Neg => difference(false, w, 0, a),
+        Binary::Add => added(false, w, a, b, word),
+        Binary::Or => logic(w, a as u64 | b as u64, word),
+        Binary::Adc => added(flags::unpack(word).cf, w, a, b, word),
+        Binary::Sbb => subtracted(flags::unpack(word).cf, w, a, b, word),
+        Binary::And => logic(w, a as u64 & b as u64, word),
+        Binary::Sub => subtracted(false, w, a, b, word),
+        Binary::Xor => logic(w, a as u64 ^ b as u64, word),
+        Binary::Cmp => subtracted(false, w, a, b, word),
     }
 }
 
-// The flags after an operation of one operand.
-pub fn single_flags(op: Single, w: Size, a: u32, old: Flags) -> Flags
-    ensures { λ r. ⌜ r ≡ singleFlags op w a old ⌝ }
+// What an operation of one operand gives, and the word of the flags after it.
+pub fn single_worked(op: Single, w: Size, a: u32, word: u32) -> Worked
+    ensures { λ r. ⌜ Works (singleValue op w a) (singleFlags op w a (Word.flagsOf word)) r ⌝ }
 {
     match op {
-        Single::Inc => sum_flags(false, w, a, 1, old.cf, old),
-        Single::Dec => difference_flags(false, w, a, 1, old.cf, old),
-        Single::Not => old,
-        Single::Neg => subtracted(false, w, 0, a, old),
+        Single::Inc => sum_worked(false, w, a, 1, flags::unpack(word).cf, word),
+        Single::Dec => difference_worked(false, w, a, 1, flags::unpack(word).cf, word),
+        Single::Not => {
+            let value = width::low(w, 0xFFFF_FFFF) - width::low(w, a as u64);
+            Worked { value, word }
+        }
+        Single::Neg => subtracted(false, w, 0, a, word),
     }
 }

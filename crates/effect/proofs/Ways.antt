@@ -19,8 +19,7 @@ use Rattle.sense.specs.declared.Operation.{Operation}
 use Rattle.plan.specs.declared.Operand.{Operand}
 use Rattle.plan.specs.declared.Operand.the-variants.{Register, Memory, Number}
 use Rattle.plan.specs.declared.Plan.{Plan}
-use Rattle.effect.specs.declared.arithmetic.Computed.{Computed}
-use Rattle.effect.specs.declared.outcome.Effect.{Effect}
+use Rattle.effect.specs.Outcomes.{Effect, Computed}
 use Rattle.effect.specs.Words.{becomes, writes, faults, onward, assign, assigned}
 use Rattle.effect.specs.Arithmetic.{settled, doubled, multiplied, multipliedSigned, quotient, divided, dividedSigned, arithmeticEffect}
 use Rattle.effect.specs.Moves.{exchanged, moveEffect, flaggingEffect}

@@ -3,7 +3,7 @@ use Prim.Native.Nat.{ℕ}
 use Rattle.machine.specs.declared.registers.Machine.{Machine}
 use Rattle.sense.specs.declared.Operation.{Operation}
 use Rattle.plan.specs.declared.Plan.{Plan}
-use Rattle.effect.specs.declared.outcome.Effect.{Effect}
+use Rattle.effect.specs.Outcomes.{Effect}
 use Rattle.effect.specs.declared.outcome.Reads.{Reads}
 use Rattle.effect.specs.declared.outcome.Reads.the-variants.{Nothing}
 use Rattle.effect.specs.Arithmetic.{arithmeticAddress, arithmeticReads, arithmeticEffect}

@@ -21,8 +21,7 @@ use Rattle.machine.specs.declared.registers.Machine.{Machine}
 use Rattle.machine.specs.Registers.{part, withPart, withFlags}
 use Rattle.sense.specs.declared.Arithmetic.{Arithmetic}
 use Rattle.plan.specs.declared.Plan.{Plan}
-use Rattle.effect.specs.declared.arithmetic.Computed.{Computed}
-use Rattle.effect.specs.declared.outcome.Effect.{Effect}
+use Rattle.effect.specs.Outcomes.{Effect, Computed}
 use Rattle.effect.specs.declared.outcome.Reads.{Reads}
 use Rattle.effect.specs.Bits.{unitOf, bitTested, bitsComputed}
 use Rattle.effect.specs.Words.{becomes, faults, onward, value, assign, readOr, readOf}

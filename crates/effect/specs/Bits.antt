@@ -14,7 +14,7 @@ use Rattle.bits.specs.Doubles.{doubleValue, doubleFlags}
 use Rattle.machine.specs.declared.registers.Machine.{Machine}
 use Rattle.sense.specs.declared.Bits.{Bits}
 use Rattle.plan.specs.declared.Plan.{Plan}
-use Rattle.effect.specs.declared.arithmetic.Computed.{Computed}
+use Rattle.effect.specs.Outcomes.{Computed}
 use Rattle.effect.specs.Words.{value}
 
 -- where the unit in memory is that holds the bit of the offset SRC, where m is the machine before and a the effective address

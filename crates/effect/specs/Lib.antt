@@ -1,4 +1,6 @@
 -- The definitions of `effect`. Assumes nothing.
+pub mod Outcomes
+pub mod Changes
 pub mod Words
 pub mod Bits
 pub mod Arithmetic

@@ -12,7 +12,7 @@ use Rattle.machine.specs.Registers.{part, withPart, withFlags}
 use Rattle.sense.specs.declared.Move.{Move}
 use Rattle.sense.specs.declared.Flagging.{Flagging}
 use Rattle.plan.specs.declared.Plan.{Plan}
-use Rattle.effect.specs.declared.outcome.Effect.{Effect}
+use Rattle.effect.specs.Outcomes.{Effect}
 use Rattle.effect.specs.declared.outcome.Reads.{Reads}
 use Rattle.effect.specs.declared.outcome.Reads.the-variants.{Nothing}
 use Rattle.effect.specs.Words.{becomes, onward, value, assign, assigned, readOf}

@@ -7,7 +7,7 @@ use Rattle.machine.specs.declared.registers.Machine.{Machine}
 use Rattle.machine.specs.Registers.{register, withRegister, withEip}
 use Rattle.sense.specs.declared.Stack.{Stack}
 use Rattle.plan.specs.declared.Plan.{Plan}
-use Rattle.effect.specs.declared.outcome.Effect.{Effect}
+use Rattle.effect.specs.Outcomes.{Effect}
 use Rattle.effect.specs.declared.outcome.Reads.{Reads}
 use Rattle.effect.specs.declared.outcome.Reads.the-variants.{Nothing, One}
 use Rattle.effect.specs.Words.{becomes, writes, onward, value, assign, readOf}

@@ -14,7 +14,7 @@ use Rattle.machine.specs.Registers.{register, withRegister, withEip, withFlags,
 use Rattle.grammar.specs.declared.rule.Repeat.{Repeat}
 use Rattle.sense.specs.declared.Strings.{Strings}
 use Rattle.plan.specs.declared.Plan.{Plan}
-use Rattle.effect.specs.declared.outcome.Effect.{Effect}
+use Rattle.effect.specs.Outcomes.{Effect}
 use Rattle.effect.specs.declared.outcome.Reads.{Reads}
 use Rattle.effect.specs.declared.outcome.Reads.the-variants.{Nothing, One, Two}
 use Rattle.effect.specs.Words.{becomes, writes, onward}

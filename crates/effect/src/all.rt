@@ -7,24 +7,25 @@ use crate::branches::branch_reads;
 use crate::moves::flagging_effect;
 use crate::moves::move_effect;
 use crate::moves::move_reads;
-use crate::outcome::Effect;
+use crate::outcome::Changes;
 use crate::outcome::Reads;
 use crate::rounds::string_effect;
 use crate::rounds::string_reads;
 use crate::stacks::stack_effect;
 use crate::stacks::stack_reads;
-use machine::registers::Machine;
 use plan::Plan;
 use sense::Operation;
 ghost use mathlib.Core.Path.{_≡_};
+ghost use Rattle.machine.specs.Registers.{Gives};
+ghost use Rattle.effect.specs.Changes.{held, applied};
 ghost use Rattle.effect.specs.All.{addressBy, readsBy, effectBy};
 
 // Where its operand in memory is, where a is the effective address.
-pub fn address_by(operation: Operation, m: Machine, p: Plan, a: u32) -> u32
-    ensures { λ r. ⌜ r ≡ addressBy operation m p a ⌝ }
+pub fn address_by(operation: Operation, regs: &[u32; 8], p: Plan, a: u32) -> u32
+    ensures { λ r. ⌜ Gives (now (regs .entry)) (λ m. addressBy operation m p a) r ⌝ }
 {
     match operation {
-        Operation::Arithmetic(op) => arithmetic_address(op, m, p, a),
+        Operation::Arithmetic(op) => arithmetic_address(op, regs, p, a),
         Operation::Move(_) => a,
         Operation::Flagging(_) => a,
         Operation::Stack(_) => a,
@@ -34,29 +35,38 @@ pub fn address_by(operation: Operation, m: Machine, p: Plan, a: u32) -> u32
 }
 
 // What it reads, in this order, where a is that address.
-pub fn reads_by(operation: Operation, m: Machine, p: Plan, a: u32) -> Reads
-    ensures { λ r. ⌜ r ≡ readsBy operation m p a ⌝ }
+pub fn reads_by(operation: Operation, regs: &[u32; 8], p: Plan, a: u32) -> Reads
+    ensures { λ r. ⌜ Gives (now (regs .entry)) (λ m. readsBy operation m p a) r ⌝ }
 {
     match operation {
         Operation::Arithmetic(_) => arithmetic_reads(p, a),
         Operation::Move(op) => move_reads(op, p, a),
         Operation::Flagging(_) => Reads::Nothing,
-        Operation::Stack(op) => stack_reads(op, m, p, a),
+        Operation::Stack(op) => stack_reads(op, regs, p, a),
         Operation::Branch(op) => branch_reads(op, p, a),
-        Operation::Strings(op) => string_reads(op, m, p),
+        Operation::Strings(op) => string_reads(op, regs, p),
     }
 }
 
-// What it does, where a is that address, and r and s are what was read.
-pub fn effect_by(operation: Operation, m: Machine, p: Plan, a: u32, r: u32, s: u32) -> Effect
-    ensures { λ e. ⌜ e ≡ effectBy operation m p a r s ⌝ }
+// What it changes, where a is that address, and r and s are what was read.
+pub fn effect_by(
+    operation: Operation,
+    regs: &[u32; 8],
+    eip: u32,
+    word: u32,
+    p: Plan,
+    a: u32,
+    r: u32,
+    s: u32,
+) -> Changes
+    ensures { λ c. ⌜ effectBy operation (held (now (regs .entry)) eip word) p a r s ≡ applied c (now (regs .entry)) ⌝ }
 {
     match operation {
-        Operation::Arithmetic(op) => arithmetic_effect(op, m, p, a, r),
-        Operation::Move(op) => move_effect(op, m, p, a, r),
-        Operation::Flagging(op) => flagging_effect(op, m, p),
-        Operation::Stack(op) => stack_effect(op, m, p, a, r),
-        Operation::Branch(op) => branch_effect(op, m, p, r),
-        Operation::Strings(op) => string_effect(op, m, p, r, s),
+        Operation::Arithmetic(op) => arithmetic_effect(op, regs, eip, word, p, a, r),
+        Operation::Move(op) => move_effect(op, regs, word, p, a, r),
+        Operation::Flagging(op) => flagging_effect(op, word, p),
+        Operation::Stack(op) => stack_effect(op, regs, word, p, a, r),
+        Operation::Branch(op) => branch_effect(op, regs, word, p, r),
+        Operation::Strings(op) => string_effect(op, regs, eip, word, p, r, s),
     }
 }

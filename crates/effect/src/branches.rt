@@ -1,35 +1,37 @@
 // Jumps and loops: what each reads and does.
-use crate::outcome::Effect;
+use crate::outcome::Changes;
 use crate::outcome::Reads;
 use crate::words;
-use machine::registers::Machine;
+use machine::registers::register;
 use plan::Plan;
 use sense::Branch;
 use width::Size;
 ghost use mathlib.Core.Path.{_≡_};
-ghost use mathlib.Core.Bool.{not, _&&_};
+ghost use mathlib.Core.Bool.{cond, not, _&&_};
+ghost use mathlib.Core.List.{List};
+ghost use Prim.Native.Nat.{ℕ};
 ghost use lib.Dec.{eqb};
+ghost use lib.IntN.{subℕ};
+ghost use Rattle.width.specs.Numbers.{rest};
+ghost use Rattle.effect.specs.Words as W;
+ghost use Rattle.effect.specs.Changes.{held, applied, Changing};
 ghost use Rattle.effect.specs.Branches as B;
 
 // ECX.
 pub const ECX: u32 = 1;
 
-// ECX less 1.
-pub fn counted(m: Machine) -> u32
-    ensures { λ r. ⌜ r ≡ B.counted m ⌝ }
+// A count less 1.
+pub fn less_one(n: u32) -> u32
+    ensures { λ r. ⌜ r ≡ rest Size.Dword (subℕ n 1) ⌝ }
 {
-    width::low(Size::Dword, m.register(ECX) as u64 + 0x2_0000_0000 - 1)
+    width::low(Size::Dword, n as u64 + 0x2_0000_0000 - 1)
 }
 
-// To the target if the test holds, else on.
-fn branched(taken: bool, m: Machine, p: Plan) -> Machine
-    ensures { λ r. ⌜ r ≡ B.branched taken m p ⌝ }
+// The target if the test holds, else the next instruction.
+fn branched(taken: bool, p: Plan) -> u32
+    ensures { λ r. ⌜ r ≡ cond taken (p .target) (p .next) ⌝ }
 {
-    if taken {
-        m.with_eip(p.target)
-    } else {
-        m.with_eip(p.next)
-    }
+    if taken { p.target } else { p.next }
 }
 
 // A loop goes on if its count isn't 0 and the condition holds.
@@ -39,12 +41,20 @@ fn continues(left: u32, holds: bool) -> bool
     if left == 0 { false } else { holds }
 }
 
-// ECX less 1; to the target if ECX isn't 0 and the condition holds.
-fn looped(holds: bool, m: Machine, p: Plan) -> Effect
-    ensures { λ r. ⌜ r ≡ B.looped holds m p ⌝ }
+// EIP changes, and nothing else.
+fn jumps(next: u32, word: u32) -> Changes
+    ensures { λ r. ⌜ ((regs : List ℕ) → applied r regs ≡ W.becomes (held regs next word)) ⌝ }
 {
-    let left = counted(m);
-    words::becomes(branched(continues(left, holds), m.with_register(ECX, left), p))
+    words::becomes(next, word, words::none(), words::none())
+}
+
+// ECX less 1; to the target if ECX isn't 0 and the condition holds.
+fn looped(holds: bool, regs: &[u32; 8], word: u32, p: Plan) -> Changes
+    ensures { λ r. ⌜ Changing (now (regs .entry)) word (λ m. B.looped holds m p) r ⌝ }
+{
+    let left = less_one(register(regs, ECX));
+    let next = branched(continues(left, holds), p);
+    words::becomes(next, word, words::whole(ECX, left), words::none())
 }
 
 // JMP through memory reads its target.
@@ -67,23 +77,21 @@ pub fn branch_reads(op: Branch, p: Plan, a: u32) -> Reads
 }
 
 // What the operation does.
-pub fn branch_effect(op: Branch, m: Machine, p: Plan, r: u32) -> Effect
-    ensures { λ e. ⌜ e ≡ B.branchEffect op m p r ⌝ }
+pub fn branch_effect(op: Branch, regs: &[u32; 8], word: u32, p: Plan, r: u32) -> Changes
+    ensures { λ c. ⌜ Changing (now (regs .entry)) word (λ m. B.branchEffect op m p r) c ⌝ }
 {
+    let f = flags::unpack(word);
     match op {
-        Branch::Jump => words::becomes(m.with_eip(p.target)),
+        Branch::Jump => jumps(p.target, word),
         Branch::JumpTo => {
             let o = p.source;
             let w = p.size;
-            words::becomes(m.with_eip(words::value(o, m, r, w)))
+            jumps(words::value(o, regs, r, w), word)
         }
-        Branch::JumpIf(n) => {
-            let f = m.flags;
-            words::becomes(branched(flags::meets(n, f), m, p))
-        }
-        Branch::Loopne => looped(!m.flags.zf, m, p),
-        Branch::Loope => looped(m.flags.zf, m, p),
-        Branch::Loop => looped(true, m, p),
-        Branch::Jecxz => words::becomes(branched(m.register(ECX) == 0, m, p)),
+        Branch::JumpIf(n) => jumps(branched(flags::meets(n, f), p), word),
+        Branch::Loopne => looped(!f.zf, regs, word, p),
+        Branch::Loope => looped(f.zf, regs, word, p),
+        Branch::Loop => looped(true, regs, word, p),
+        Branch::Jecxz => jumps(branched(register(regs, ECX) == 0, p), word),
     }
 }

@@ -1,19 +1,23 @@
 // Operations that move a value or set flags: what each reads and does.
-use crate::outcome::Effect;
+use crate::outcome::Changes;
 use crate::outcome::Reads;
 use crate::words;
 use flags::Flags;
-use machine::registers::Machine;
+use machine::registers::part;
+use machine::registers::part_change;
 use plan::Plan;
 use sense::Flagging;
 use sense::Move;
 use width::Size;
 ghost use mathlib.Core.Path.{_≡_};
-ghost use Rattle.width.specs.Numbers.{bit, signExtended, signFilled, reversed};
+ghost use mathlib.Core.List.{List};
+ghost use Prim.Native.Nat.{ℕ};
+ghost use Rattle.width.specs.Numbers.{bit};
 ghost use Rattle.flags.specs.Conditions.{meets};
-ghost use Rattle.flags.specs.Word.{ahOf, fromAh};
-ghost use Rattle.machine.specs.Registers.{part, withPart, withFlags};
+ghost use Rattle.flags.specs.Word.{flagsOf};
+ghost use Rattle.machine.specs.Registers.{withPart, holding};
 ghost use Rattle.effect.specs.Words as W;
+ghost use Rattle.effect.specs.Changes.{held, applied, Changing};
 ghost use Rattle.effect.specs.Moves as M;
 
 // The source is read, by MOVZX and MOVSX at its own size, by CMOVcc whether its condition is met or not; of XCHG the destination.
@@ -39,24 +43,17 @@ pub fn move_reads(op: Move, p: Plan, a: u32) -> Reads
     }
 }
 
-// DEST ← y and SRC ← x.
-fn exchanged(m: Machine, p: Plan, a: u32, x: u32, y: u32) -> Effect
-    ensures { λ e. ⌜ e ≡ M.exchanged m p a x y ⌝ }
+// XCHG: DEST ← y and SRC ← x, where y is SRC and x is DEST.
+fn swapped(regs: &[u32; 8], word: u32, p: Plan, a: u32, r: u32) -> Changes
+    ensures { λ c. ⌜ Changing (now (regs .entry)) word (λ m. M.moveEffect Move.Xchg m p a r) c ⌝ }
 {
     let d = p.destination;
     let s = p.source;
     let w = p.size;
-    words::assign(d, a, words::assigned(s, words::onward(m, p), w, x), w, y)
-}
-
-// XCHG: DEST and SRC change places.
-fn swapped(m: Machine, p: Plan, a: u32, r: u32) -> Effect
-    ensures { λ e. ⌜ e ≡ M.exchanged m p a (W.value (p .destination) m r (p .size)) (W.value (p .source) m r (p .size)) ⌝ }
-{
-    let d = p.destination;
-    let s = p.source;
-    let w = p.size;
-    exchanged(m, p, a, words::value(d, m, r, w), words::value(s, m, r, w))
+    let x = words::value(d, regs, r, w);
+    let y = words::value(s, regs, r, w);
+    let given = words::assigned(s, regs, w, x);
+    words::assign(given, d, a, regs, p.next, word, w, y)
 }
 
 // Half a size.
@@ -70,90 +67,98 @@ fn smaller(w: Size) -> Size
     }
 }
 
+// A part of a register changes.
+fn loads(regs: &[u32; 8], next: u32, word: u32, w: Size, i: u32, v: u32) -> Changes
+    ensures { λ r. ⌜ W.becomes (withPart (held (now (regs .entry)) next word) w i v) ≡ applied r (now (regs .entry)) ⌝ }
+{
+    let none = words::none();
+    words::becomes(next, word, none, part_change(none, regs, w, i, v))
+}
+
 // CBW and CWDE: AX ← AL, or EAX ← AX, extended by sign.
-fn converted(m: Machine, p: Plan) -> Effect
-    ensures { λ e. ⌜
-        e ≡ W.becomes (withPart (W.onward m p) (p .size) 0
-        (signExtended (M.smaller (p .size)) (p .size) (part m (M.smaller (p .size)) 0)))
-        ⌝ }
+fn converted(regs: &[u32; 8], word: u32, p: Plan) -> Changes
+    ensures { λ c. ⌜ ((a r : ℕ) → Changing (now (regs .entry)) word (λ m. M.moveEffect Move.Convert m p a r) c) ⌝ }
 {
     let w = p.size;
     let from = smaller(w);
-    let v = width::sign_extended(from, w, m.part(from, 0));
-    words::becomes(words::onward(m, p).with_part(w, 0, v))
+    let v = width::sign_extended(from, w, part(regs, from, 0));
+    loads(regs, p.next, word, w, 0, v)
 }
 
 // CWD and CDQ: each bit of DX, or EDX, ← the sign of AX, or EAX.
-fn spread(m: Machine, p: Plan) -> Effect
-    ensures { λ e. ⌜ e ≡ W.becomes (withPart (W.onward m p) (p .size) 2 (signFilled (p .size) (part m (p .size) 0))) ⌝ }
+fn spread(regs: &[u32; 8], word: u32, p: Plan) -> Changes
+    ensures { λ c. ⌜ ((a r : ℕ) → Changing (now (regs .entry)) word (λ m. M.moveEffect Move.Spread m p a r) c) ⌝ }
 {
     let w = p.size;
-    let v = width::sign_filled(w, m.part(w, 0));
-    words::becomes(words::onward(m, p).with_part(w, 2, v))
+    let v = width::sign_filled(w, part(regs, w, 0));
+    loads(regs, p.next, word, w, 2, v)
 }
 
 // LAHF: AH ← the flags.
-fn ah_loaded(m: Machine, p: Plan) -> Effect
-    ensures { λ e. ⌜ e ≡ W.becomes (withPart (W.onward m p) Size.Byte 4 (ahOf (m .flags))) ⌝ }
+fn ah_loaded(regs: &[u32; 8], word: u32, p: Plan) -> Changes
+    ensures { λ c. ⌜ ((a r : ℕ) → Changing (now (regs .entry)) word (λ m. M.moveEffect Move.Lahf m p a r) c) ⌝ }
 {
-    let f = m.flags;
-    let v = flags::ah(f);
-    words::becomes(words::onward(m, p).with_part(Size::Byte, 4, v))
+    let v = flags::ah(flags::unpack(word));
+    loads(regs, p.next, word, Size::Byte, 4, v)
+}
+
+// The flags change, and no register.
+fn flags_become(next: u32, f: Flags) -> Changes
+    ensures { λ r. ⌜ ((regs : List ℕ) → applied r regs ≡ W.becomes (holding regs next f)) ⌝ }
+{
+    words::becomes(next, flags::pack(f), words::none(), words::none())
 }
 
 // SAHF: the flags ← AH.
-fn ah_stored(m: Machine, p: Plan) -> Effect
-    ensures { λ e. ⌜ e ≡ W.becomes (withFlags (W.onward m p) (fromAh (part m Size.Byte 4) (m .flags))) ⌝ }
+fn ah_stored(regs: &[u32; 8], word: u32, p: Plan) -> Changes
+    ensures { λ c. ⌜ ((a r : ℕ) → Changing (now (regs .entry)) word (λ m. M.moveEffect Move.Sahf m p a r) c) ⌝ }
 {
-    let old = m.flags;
-    let f = flags::with_ah(m.part(Size::Byte, 4), old);
-    words::becomes(words::onward(m, p).with_flags(f))
+    let f = flags::with_ah(part(regs, Size::Byte, 4), flags::unpack(word));
+    flags_become(p.next, f)
 }
 
 // SETcc: 1 if the condition is met, else 0.
-fn condition_bit(n: u32, f: Flags) -> u32
-    ensures { λ r. ⌜ r ≡ bit (meets n f) ⌝ }
+fn condition_bit(n: u32, word: u32) -> u32
+    ensures { λ r. ⌜ r ≡ bit (meets n (flagsOf word)) ⌝ }
 {
-    width::bit(flags::meets(n, f)) as u32
+    width::bit(flags::meets(n, flags::unpack(word))) as u32
 }
 
 // CMOVcc: SRC if the condition is met, else what DEST was.
-fn chosen(m: Machine, p: Plan, r: u32, n: u32) -> u32
-    ensures { λ v. ⌜ v ≡ M.chosen n m p r ⌝ }
+fn chosen(regs: &[u32; 8], word: u32, p: Plan, r: u32, n: u32) -> u32
+    ensures { λ v. ⌜ ((eip : ℕ) → M.chosen n (held (now (regs .entry)) eip word) p r ≡ v) ⌝ }
 {
-    let f = m.flags;
     let w = p.size;
-    if flags::meets(n, f) {
+    if flags::meets(n, flags::unpack(word)) {
         let s = p.source;
-        return words::value(s, m, r, w);
+        return words::value(s, regs, r, w);
     }
     let d = p.destination;
-    words::value(d, m, r, w)
+    words::value(d, regs, r, w)
 }
 
 // What the operation does.
-pub fn move_effect(op: Move, m: Machine, p: Plan, a: u32, r: u32) -> Effect
-    ensures { λ e. ⌜ e ≡ M.moveEffect op m p a r ⌝ }
+pub fn move_effect(op: Move, regs: &[u32; 8], word: u32, p: Plan, a: u32, r: u32) -> Changes
+    ensures { λ c. ⌜ Changing (now (regs .entry)) word (λ m. M.moveEffect op m p a r) c ⌝ }
 {
     let w = p.size;
     let d = p.destination;
     let s = p.source;
-    let f = m.flags;
     let v = match op {
-        Move::Mov => words::value(s, m, r, w),
-        Move::MovZero(from) => words::value(s, m, r, from),
-        Move::MovSign(from) => width::sign_extended(from, w, words::value(s, m, r, from)),
+        Move::Mov => words::value(s, regs, r, w),
+        Move::MovZero(from) => words::value(s, regs, r, from),
+        Move::MovSign(from) => width::sign_extended(from, w, words::value(s, regs, r, from)),
         Move::Lea => a,
-        Move::Xchg => return swapped(m, p, a, r),
-        Move::Convert => return converted(m, p),
-        Move::Spread => return spread(m, p),
-        Move::Bswap => width::reversed(words::value(d, m, r, w)),
-        Move::Set(n) => condition_bit(n, f),
-        Move::Lahf => return ah_loaded(m, p),
-        Move::Sahf => return ah_stored(m, p),
-        Move::MovIf(n) => chosen(m, p, r, n),
+        Move::Xchg => return swapped(regs, word, p, a, r),
+        Move::Convert => return converted(regs, word, p),
+        Move::Spread => return spread(regs, word, p),
+        Move::Bswap => width::reversed(words::value(d, regs, r, w)),
+        Move::Set(n) => condition_bit(n, word),
+        Move::Lahf => return ah_loaded(regs, word, p),
+        Move::Sahf => return ah_stored(regs, word, p),
+        Move::MovIf(n) => chosen(regs, word, p, r, n),
     };
-    words::assign(d, a, words::onward(m, p), w, v)
+    words::assign(words::none(), d, a, regs, p.next, word, w, v)
 }
 
 // The flags with another CF.
@@ -186,9 +191,9 @@ fn flagged(op: Flagging, f: Flags) -> Flags
 }
 
 // What the operation does.
-pub fn flagging_effect(op: Flagging, m: Machine, p: Plan) -> Effect
-    ensures { λ r. ⌜ r ≡ M.flaggingEffect op m p ⌝ }
+pub fn flagging_effect(op: Flagging, word: u32, p: Plan) -> Changes
+    ensures { λ c. ⌜ ((regs : List ℕ) → Changing regs word (λ m. M.flaggingEffect op m p) c) ⌝ }
 {
-    let f = m.flags;
-    words::becomes(words::onward(m, p).with_flags(flagged(op, f)))
+    let f = flags::unpack(word);
+    flags_become(p.next, flagged(op, f))
 }

@@ -1,21 +1,31 @@
 // String operations: one round, and what a repeat prefix makes of it.
-use crate::branches;
-use crate::outcome::Effect;
+use crate::branches::ECX;
+use crate::branches::less_one;
+use crate::outcome::Changes;
 use crate::outcome::Reads;
 use crate::words;
 use arith::Binary;
 use grammar::rule::Repeat;
-use machine::registers::Machine;
+use machine::registers::Change;
+use machine::registers::part;
+use machine::registers::part_change;
+use machine::registers::register;
 use plan::Plan;
 use sense::Strings;
 use width::Size;
 ghost use mathlib.Core.Path.{_≡_};
 ghost use mathlib.Core.Bool.{_&&_, _||_};
-ghost use Prim.Native.Nat.{_+_};
+ghost use mathlib.Core.List.{List};
+ghost use Prim.Native.Nat.{ℕ, _+_, _%_};
 ghost use lib.Dec.{eqb};
 ghost use lib.IntN.{pos, subℕ};
+ghost use lib.ListN.{getD};
 ghost use Rattle.width.specs.Sizes.{bytes};
 ghost use Rattle.width.specs.Numbers.{rest};
+ghost use Rattle.flags.specs.Word.{flagsOf};
+ghost use Rattle.machine.specs.Registers.{withEip, holding, Gives, changed};
+ghost use Rattle.effect.specs.Changes.{held, applied, Round};
+ghost use Rattle.effect.specs.Branches.{counted};
 ghost use Rattle.effect.specs.Strings as S;
 
 // ESI.
@@ -41,62 +51,77 @@ fn down(a: u32, w: Size) -> u32
     )
 }
 
-// A register moved on by one element: up with DF clear, down with DF set.
-fn passed(m: Machine, w: Size, i: u32) -> Machine
-    ensures { λ r. ⌜ r ≡ S.passed m w i ⌝ }
+// A register moved on by one element: up with DF clear, down with DF set; also among registers of which others have changed.
+fn passed(regs: &[u32; 8], word: u32, w: Size, i: u32) -> Change
+    ensures { λ r. ⌜
+        ((rs : List ℕ) (eip : ℕ) → getD rs (i % 8) 0 ≡ getD (now (regs .entry)) (i % 8) 0
+        → S.passed (held rs eip word) w i ≡ held (changed r rs) eip word)
+        ⌝ }
 {
-    let a = m.register(i);
-    if m.flags.df {
-        m.with_register(i, down(a, w))
+    let a = register(regs, i);
+    let f = flags::unpack(word);
+    if f.df {
+        words::whole(i, down(a, w))
     } else {
-        m.with_register(i, up(a, w))
+        words::whole(i, up(a, w))
     }
 }
 
-// One round.
-fn round(op: Strings, m: Machine, w: Size, r: u32, s: u32) -> Effect
-    ensures { λ e. ⌜ e ≡ S.round op m w r s ⌝ }
+// One round; EIP stays.
+fn round(op: Strings, regs: &[u32; 8], eip: u32, word: u32, w: Size, r: u32, s: u32) -> Changes
+    ensures { λ c. ⌜ Round (now (regs .entry)) (S.round op (held (now (regs .entry)) eip word) w r s) c ⌝ }
 {
     match op {
-        Strings::Movs => words::writes(passed(passed(m, w, ESI), w, EDI), w, m.register(EDI), r),
-        Strings::Cmps => {
-            let f = m.flags;
-            let next = passed(passed(m, w, ESI), w, EDI);
-            words::becomes(next.with_flags(arith::binary_flags(Binary::Cmp, w, r, s, f)))
+        Strings::Movs => {
+            let from = passed(regs, word, w, ESI);
+            let to = passed(regs, word, w, EDI);
+            words::writes(eip, word, from, to, w, register(regs, EDI), r)
         }
-        Strings::Stos => words::writes(passed(m, w, EDI), w, m.register(EDI), m.part(w, 0)),
-        Strings::Lods => words::becomes(passed(m.with_part(w, 0, r), w, ESI)),
+        Strings::Cmps => {
+            let c = arith::binary_worked(Binary::Cmp, w, r, s, word);
+            let from = passed(regs, word, w, ESI);
+            let to = passed(regs, word, w, EDI);
+            words::becomes(eip, c.word, from, to)
+        }
+        Strings::Stos => {
+            let to = passed(regs, word, w, EDI);
+            let a = register(regs, EDI);
+            words::writes(eip, word, to, words::none(), w, a, part(regs, w, 0))
+        }
+        Strings::Lods => {
+            let accumulator = part_change(words::none(), regs, w, 0, r);
+            words::becomes(eip, word, accumulator, passed(regs, word, w, ESI))
+        }
         Strings::Scas => {
-            let f = m.flags;
-            let a = m.part(w, 0);
-            let next = passed(m, w, EDI);
-            words::becomes(next.with_flags(arith::binary_flags(Binary::Cmp, w, a, r, f)))
+            let c = arith::binary_worked(Binary::Cmp, w, part(regs, w, 0), r, word);
+            let to = passed(regs, word, w, EDI);
+            words::becomes(eip, c.word, to, words::none())
         }
     }
 }
 
 // What a round reads, in this order.
-fn round_reads(op: Strings, m: Machine, w: Size) -> Reads
-    ensures { λ r. ⌜ r ≡ S.roundReads op m w ⌝ }
+fn round_reads(op: Strings, regs: &[u32; 8], w: Size) -> Reads
+    ensures { λ r. ⌜ Gives (now (regs .entry)) (λ m. S.roundReads op m w) r ⌝ }
 {
     match op {
         Strings::Movs => Reads::One {
             size: w,
-            address: m.register(ESI),
+            address: register(regs, ESI),
         },
         Strings::Cmps => Reads::Two {
             size: w,
-            first: m.register(ESI),
-            second: m.register(EDI),
+            first: register(regs, ESI),
+            second: register(regs, EDI),
         },
         Strings::Stos => Reads::Nothing,
         Strings::Lods => Reads::One {
             size: w,
-            address: m.register(ESI),
+            address: register(regs, ESI),
         },
         Strings::Scas => Reads::One {
             size: w,
-            address: m.register(EDI),
+            address: register(regs, EDI),
         },
     }
 }
@@ -135,70 +160,97 @@ fn over(again: Repeat, op: Strings, left: u32, zf: bool) -> bool
     }
 }
 
-// The machine after a round of a repetition: ECX less 1, and EIP moves on where it is over, else it stays at the first prefix.
-fn repeated(again: Repeat, op: Strings, m: Machine, p: Plan) -> Machine
-    ensures { λ r. ⌜ r ≡ S.repeated again op m p ⌝ }
+// The changes with another EIP.
+fn with_next(mut c: Changes, next: u32) -> Changes
+    ensures { λ r. ⌜ ((regs : List ℕ) → applied r regs ≡ S.withMachine (applied c regs) (withEip ((applied c regs) .machine) next)) ⌝ }
 {
-    let left = branches::counted(m);
-    let next = m.with_register(branches::ECX, left);
-    if over(again, op, left, m.flags.zf) {
-        next.with_eip(p.next)
+    c.next = next;
+    c
+}
+
+// The changes with another EIP, and a register more.
+fn with_count(mut c: Changes, count: Change, next: u32) -> Changes
+    ensures { λ r. ⌜
+        ((regs : List ℕ) → ((rs : List ℕ) → changed (c .third) rs ≡ rs)
+        → applied r regs
+        ≡ S.withMachine (applied c regs) (holding (changed count ((applied c regs) .machine .regs)) next (flagsOf (c .word))))
+        ⌝ }
+{
+    c.third = count;
+    c.next = next;
+    c
+}
+
+// The changes of a round of a repetition: ECX becomes what is left, and EIP moves on where it is over, else it stays at the first prefix.
+fn repeated(again: Repeat, op: Strings, c: Changes, left: u32, p: Plan) -> Changes
+    ensures { λ r. ⌜
+        ((regs : List ℕ) → ((rs : List ℕ) → changed (c .third) rs ≡ rs) → counted ((applied c regs) .machine) ≡ left
+        → applied r regs ≡ S.withMachine (applied c regs) (S.repeated again op ((applied c regs) .machine) p))
+        ⌝ }
+{
+    let count = words::whole(ECX, left);
+    let f = flags::unpack(c.word);
+    if over(again, op, left, f.zf) {
+        with_count(c, count, p.next)
     } else {
-        next.with_eip(m.eip)
+        with_count(c, count, c.next)
     }
 }
 
-// An effect with another machine.
-fn with_machine(mut e: Effect, m: Machine) -> Effect
-    ensures { λ r. ⌜ r ≡ S.withMachine e m ⌝ }
-{
-    e.machine = m;
-    e
-}
-
-// Whether a repetition has nothing to do: a prefix, and ECX 0.
-fn idle(again: Repeat, m: Machine) -> bool
-    ensures { λ r. ⌜ r ≡ S.idle again m ⌝ }
+// Whether a repetition has nothing to do: a prefix, and a count of 0.
+fn idle(again: Repeat, regs: &[u32; 8]) -> bool
+    ensures { λ r. ⌜ Gives (now (regs .entry)) (λ m. S.idle again m) r ⌝ }
 {
     match again {
         Repeat::Absent => false,
-        Repeat::F2 => m.register(branches::ECX) == 0,
-        Repeat::F3 => m.register(branches::ECX) == 0,
+        Repeat::F2 => register(regs, ECX) == 0,
+        Repeat::F3 => register(regs, ECX) == 0,
     }
 }
 
 // What the operation reads.
-pub fn string_reads(op: Strings, m: Machine, p: Plan) -> Reads
-    ensures { λ r. ⌜ r ≡ S.stringReads op m p ⌝ }
+pub fn string_reads(op: Strings, regs: &[u32; 8], p: Plan) -> Reads
+    ensures { λ r. ⌜ Gives (now (regs .entry)) (λ m. S.stringReads op m p) r ⌝ }
 {
     let again = p.repeat;
-    if idle(again, m) {
+    if idle(again, regs) {
         return Reads::Nothing;
     }
     let w = p.size;
-    round_reads(op, m, w)
+    round_reads(op, regs, w)
 }
 
-// One round, alone or under a prefix.
-fn rounded(again: Repeat, op: Strings, e: Effect, p: Plan) -> Effect
-    ensures { λ r. ⌜ r ≡ S.rounded again op e p ⌝ }
+// One round, alone or under a prefix, where so many elements are left.
+fn rounded(again: Repeat, op: Strings, c: Changes, left: u32, p: Plan) -> Changes
+    ensures { λ r. ⌜
+        ((regs : List ℕ) → ((rs : List ℕ) → changed (c .third) rs ≡ rs) → counted ((applied c regs) .machine) ≡ left
+        → applied r regs ≡ S.rounded again op (applied c regs) p)
+        ⌝ }
 {
-    let m = e.machine;
     match again {
-        Repeat::Absent => with_machine(e, words::onward(m, p)),
-        Repeat::F2 => with_machine(e, repeated(Repeat::F2, op, m, p)),
-        Repeat::F3 => with_machine(e, repeated(Repeat::F3, op, m, p)),
+        Repeat::Absent => with_next(c, p.next),
+        Repeat::F2 => repeated(Repeat::F2, op, c, left, p),
+        Repeat::F3 => repeated(Repeat::F3, op, c, left, p),
     }
 }
 
 // What the operation does.
-pub fn string_effect(op: Strings, m: Machine, p: Plan, r: u32, s: u32) -> Effect
-    ensures { λ e. ⌜ e ≡ S.stringEffect op m p r s ⌝ }
+pub fn string_effect(
+    op: Strings,
+    regs: &[u32; 8],
+    eip: u32,
+    word: u32,
+    p: Plan,
+    r: u32,
+    s: u32,
+) -> Changes
+    ensures { λ c. ⌜ S.stringEffect op (held (now (regs .entry)) eip word) p r s ≡ applied c (now (regs .entry)) ⌝ }
 {
     let again = p.repeat;
-    if idle(again, m) {
-        return words::becomes(words::onward(m, p));
+    if idle(again, regs) {
+        return words::becomes(p.next, word, words::none(), words::none());
     }
     let w = p.size;
-    rounded(again, op, round(op, m, w, r, s), p)
+    let c = round(op, regs, eip, word, w, r, s);
+    rounded(again, op, c, less_one(register(regs, ECX)), p)
 }

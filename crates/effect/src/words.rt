@@ -1,90 +1,137 @@
 // The words that effects are written in: an operand's value, assigning, reading.
-use crate::outcome::Effect;
+use crate::outcome::Changes;
 use crate::outcome::Outcome;
 use crate::outcome::Reads;
-use machine::registers::Machine;
+use machine::registers;
+use machine::registers::Change;
+use machine::registers::part_change;
 use plan::Operand;
-use plan::Plan;
 use width::Size;
 ghost use mathlib.Core.Path.{_≡_};
+ghost use mathlib.Core.List.{List};
+ghost use Prim.Native.Nat.{ℕ};
+ghost use Rattle.machine.specs.Registers.{withRegister, Gives, Makes, changed};
 ghost use Rattle.effect.specs.Words as W;
+ghost use Rattle.effect.specs.Changes.{held, applied, Comes};
 
-// The next machine, with no write.
-pub fn becomes(m: Machine) -> Effect
-    ensures { λ r. ⌜ r ≡ W.becomes m ⌝ }
+// No register changes.
+pub fn none() -> Change
+    ensures { λ r. ⌜ ((regs : List ℕ) → changed r regs ≡ regs) ⌝ }
 {
-    Effect {
-        outcome: Outcome::Becomes,
-        machine: m,
-        size: Size::Byte,
-        address: 0,
+    Change {
+        register: 8,
         value: 0,
     }
 }
 
-// The next machine, and v written at an address.
-pub fn writes(m: Machine, w: Size, a: u32, v: u32) -> Effect
-    ensures { λ r. ⌜ r ≡ W.writes m w a v ⌝ }
+// A whole register changes.
+pub fn whole(i: u32, v: u32) -> Change
+    ensures { λ r. ⌜ ((regs : List ℕ) → Makes regs (λ m. withRegister m i v) (changed r regs)) ⌝ }
 {
-    Effect {
-        outcome: Outcome::Writes,
-        machine: m,
-        size: w,
-        address: a,
+    Change {
+        register: i % 8,
         value: v,
     }
 }
 
-// A divide error.
-pub fn faults(m: Machine) -> Effect
-    ensures { λ r. ⌜ r ≡ W.faults m ⌝ }
+// EIP, the flags and at most two registers change, and nothing is written.
+pub fn becomes(next: u32, word: u32, first: Change, second: Change) -> Changes
+    ensures { λ r. ⌜ Comes (λ regs. W.becomes (held (changed second (changed first regs)) next word)) r ⌝ }
 {
-    Effect {
-        outcome: Outcome::Faults,
-        machine: m,
+    Changes {
+        outcome: Outcome::Becomes,
         size: Size::Byte,
         address: 0,
         value: 0,
+        next,
+        word,
+        first,
+        second,
+        third: none(),
     }
 }
 
-// The machine at the next instruction.
-pub fn onward(m: Machine, p: Plan) -> Machine
-    ensures { λ r. ⌜ r ≡ W.onward m p ⌝ }
+// They change, and v is written at an address.
+pub fn writes(
+    next: u32,
+    word: u32,
+    first: Change,
+    second: Change,
+    w: Size,
+    a: u32,
+    v: u32,
+) -> Changes
+    ensures { λ r. ⌜ Comes (λ regs. W.writes (held (changed second (changed first regs)) next word) w a v) r ⌝ }
 {
-    m.with_eip(p.next)
+    Changes {
+        outcome: Outcome::Writes,
+        size: w,
+        address: a,
+        value: v,
+        next,
+        word,
+        first,
+        second,
+        third: none(),
+    }
+}
+
+// A divide error: nothing changes.
+pub fn faults(eip: u32, word: u32) -> Changes
+    ensures { λ r. ⌜ ((regs : List ℕ) → applied r regs ≡ W.faults (held regs eip word)) ⌝ }
+{
+    Changes {
+        outcome: Outcome::Faults,
+        size: Size::Byte,
+        address: 0,
+        value: 0,
+        next: eip,
+        word,
+        first: none(),
+        second: none(),
+        third: none(),
+    }
 }
 
 // An operand's value at a size, where r is what was read of memory.
-pub fn value(o: Operand, m: Machine, r: u32, w: Size) -> u32
-    ensures { λ v. ⌜ v ≡ W.value o m r w ⌝ }
+pub fn value(o: Operand, regs: &[u32; 8], r: u32, w: Size) -> u32
+    ensures { λ v. ⌜ Gives (now (regs .entry)) (λ m. W.value o m r w) v ⌝ }
 {
     match o {
-        Operand::Register(i) => m.part(w, i),
+        Operand::Register(i) => registers::part(regs, w, i),
         Operand::Memory => r,
         Operand::Number(n) => n,
     }
 }
 
-// v assigned to an operand, where a is its address if it lies in memory.
-pub fn assign(o: Operand, a: u32, m: Machine, w: Size, v: u32) -> Effect
-    ensures { λ r. ⌜ r ≡ W.assign o a m w v ⌝ }
+// v assigned to an operand after a change of a register, where a is its address if it lies in memory.
+pub fn assign(
+    before: Change,
+    o: Operand,
+    a: u32,
+    regs: &[u32; 8],
+    next: u32,
+    word: u32,
+    w: Size,
+    v: u32,
+) -> Changes
+    ensures { λ r. ⌜ W.assign o a (held (changed before (now (regs .entry))) next word) w v ≡ applied r (now (regs .entry)) ⌝ }
 {
     match o {
-        Operand::Register(i) => becomes(m.with_part(w, i, v)),
-        Operand::Memory => writes(m, w, a, v),
-        Operand::Number(_) => becomes(m),
+        Operand::Register(i) => becomes(next, word, before, part_change(before, regs, w, i, v)),
+        Operand::Memory => writes(next, word, before, none(), w, a, v),
+        Operand::Number(_) => becomes(next, word, before, none()),
     }
 }
 
 // v assigned to an operand that is no memory.
-pub fn assigned(o: Operand, m: Machine, w: Size, v: u32) -> Machine
-    ensures { λ r. ⌜ r ≡ W.assigned o m w v ⌝ }
+pub fn assigned(o: Operand, regs: &[u32; 8], w: Size, v: u32) -> Change
+    ensures { λ r. ⌜ Makes (now (regs .entry)) (λ m. W.assigned o m w v) (changed r (now (regs .entry))) ⌝ }
 {
     match o {
-        Operand::Register(i) => m.with_part(w, i, v),
-        Operand::Memory => m,
-        Operand::Number(_) => m,
+        Operand::Register(i) => part_change(none(), regs, w, i, v),
+        Operand::Memory => none(),
+        Operand::Number(_) => none(),
     }
 }
 

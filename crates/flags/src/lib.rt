@@ -112,6 +112,13 @@ pub fn resulting(w: Size, v: u32, cf: bool, af: bool, of: bool, old: Flags) -> F
     }
 }
 
+// The word of a result: SF, ZF and PF by the result v, CF, AF and OF as given, DF as in the old word.
+pub fn resulting_word(w: Size, v: u32, cf: bool, af: bool, of: bool, word: u32) -> u32
+    ensures { λ r. ⌜ flagsOf r ≡ resulting w v cf af of (flagsOf word) ⌝ }
+{
+    pack(resulting(w, v, cf, af, of, unpack(word)))
+}
+
 // Do the flags meet the condition with the number 2 * n? The one after it is its opposite.
 fn even(n: u32, f: Flags) -> bool
     requires { ⌜ n < 8 ⌝ }

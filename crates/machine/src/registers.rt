@@ -1,8 +1,26 @@
-// The machine: eight 32-bit registers, EIP and the flags. Each method takes it and gives the next one.
+// The machine: eight 32-bit registers, EIP and the flags. Functions that look at or change registers alone take them lent; a method takes the whole machine and gives the next one.
 ghost use mathlib.Core.Path.{_≡_};
+ghost use mathlib.Core.Bool.{cond};
+ghost use Prim.Native.Nat.{_%_, _<_};
+ghost use lib.Dec.{eqb};
+ghost use Rattle.width.specs.Sizes.{bits};
 ghost use Rattle.width.specs.Numbers.{Is};
 ghost use Rattle.width.specs.declared as Width;
-ghost use Rattle.machine.specs.Registers.{register, withRegister, withEip, withFlags, part, withPart};
+ghost use Rattle.machine.specs.Registers.{
+  register,
+  withRegister,
+  withEip,
+  withFlags,
+  holder,
+  lowest,
+  part,
+  replaced,
+  withPart,
+  holding,
+  Gives,
+  Makes,
+  changed,
+};
 use flags::Flags;
 use width::Size;
 
@@ -13,14 +31,112 @@ pub struct Machine {
     pub flags: Flags,
 }
 
+// A register's new value; the number 8 stands for no register.
+pub struct Change {
+    pub register: u32,
+    pub value: u32,
+}
+
+// A whole register.
+pub fn register(regs: &[u32; 8], i: u32) -> u32
+    ensures { λ r. ⌜ Gives (now (regs .entry)) (λ m. register m i) r ⌝ }
+{
+    regs[(i % 8) as usize]
+}
+
+// The part of a register with the number i at the size.
+pub fn part(regs: &[u32; 8], w: Size, i: u32) -> u32
+    ensures { λ r. ⌜ Gives (now (regs .entry)) (λ m. part m w i) r ⌝ }
+{
+    match w {
+        Size::Byte => byte(regs, i),
+        Size::Word => register(regs, i) % 0x1_0000,
+        Size::Dword => register(regs, i),
+    }
+}
+
+// AL CL DL BL AH CH DH BH.
+fn byte(regs: &[u32; 8], i: u32) -> u32
+    ensures { λ r. ⌜ Gives (now (regs .entry)) (λ m. part m Size.Byte i) r ⌝ }
+{
+    let v = register(regs, i % 4);
+    if i / 4 % 2 == 0 {
+        v % 0x100
+    } else {
+        v / 0x100 % 0x100
+    }
+}
+
+// The number of the register that a part lies in, below 8.
+pub fn holder(w: Size, i: u32) -> u32
+    ensures { λ r. ⌜ (r ≡ holder w i % 8) × (r < 8) ⌝ }
+{
+    match w {
+        Size::Byte => i % 4,
+        Size::Word => i % 8,
+        Size::Dword => i % 8,
+    }
+}
+
+// A register's value v with the part i replaced by x.
+pub fn replaced(w: Size, i: u32, v: u32, x: u32) -> u32
+    ensures { λ r. ⌜ r ≡ replaced (lowest w i) (bits w) v x ⌝ }
+{
+    match w {
+        Size::Byte => with_byte(i, v, x),
+        Size::Word => v - v % 0x1_0000 + x % 0x1_0000,
+        Size::Dword => x,
+    }
+}
+
+// A register's value v with one of AL CL DL BL AH CH DH BH replaced by x.
+fn with_byte(i: u32, v: u32, x: u32) -> u32
+    ensures { λ r. ⌜ r ≡ replaced (lowest Size.Byte i) (bits Size.Byte) v x ⌝ }
+{
+    if i / 4 % 2 == 0 {
+        v - v % 0x100 + x % 0x100
+    } else {
+        v - v % 0x1_0000 + x % 0x100 * 0x100 + v % 0x100
+    }
+}
+
+// A change made in place.
+pub fn put(regs: &mut [u32; 8], c: Change)
+    ensures { λ _. ⌜ now (regs .exit) ≡ changed c (now (regs .entry)) ⌝ }
+{
+    if c.register < 8 {
+        regs[c.register as usize] = c.value;
+    }
+}
+
+// The value of the register h after a change.
+fn value_after(c: Change, regs: &[u32; 8], h: u32) -> u32
+    ensures { λ r. ⌜ Gives (now (regs .entry)) (λ m. cond (eqb (c .register) h) (c .value) (register m h)) r ⌝ }
+{
+    if c.register == h {
+        c.value
+    } else {
+        register(regs, h)
+    }
+}
+
+// The change that assigns x to the part i, after another change.
+pub fn part_change(before: Change, regs: &[u32; 8], w: Size, i: u32, x: u32) -> Change
+    ensures { λ r. ⌜ Makes (changed before (now (regs .entry))) (λ m. withPart m w i x) (changed r (changed before (now (regs .entry)))) ⌝ }
+{
+    let h = holder(w, i);
+    Change {
+        register: h,
+        value: replaced(w, i, value_after(before, regs, h), x),
+    }
+}
+
 impl Machine {
     // A whole register.
     pub fn register(self, i: u32) -> u32
         ensures { λ r. ⌜ r ≡ register self i ⌝ }
     {
-        let at = (i % 8) as usize;
-        let regs = self.regs;
-        regs[at]
+        register(&self.regs, i)
     }
 
     // The machine with another value in a register.
@@ -52,48 +168,26 @@ impl Machine {
     pub fn part(self, w: Size, i: u32) -> u32
         ensures { λ r. ⌜ Is w (part self w i) r ⌝ }
     {
-        match w {
-            Size::Byte => self.byte(i),
-            Size::Word => self.register(i) % 0x1_0000,
-            Size::Dword => self.register(i),
-        }
-    }
-
-    // AL CL DL BL AH CH DH BH.
-    fn byte(self, i: u32) -> u32
-        ensures { λ r. ⌜ Is Size.Byte (part self Size.Byte i) r ⌝ }
-    {
-        let v = self.register(i % 4);
-        if i / 4 % 2 == 0 {
-            v % 0x100
-        } else {
-            v / 0x100 % 0x100
-        }
+        part(&self.regs, w, i)
     }
 
     // The machine with another value in a part.
     pub fn with_part(self, w: Size, i: u32, x: u32) -> Machine
         ensures { λ r. ⌜ r ≡ withPart self w i x ⌝ }
     {
-        match w {
-            Size::Byte => self.with_byte(i, x),
-            Size::Word => {
-                let v = self.register(i);
-                self.with_register(i, v - v % 0x1_0000 + x % 0x1_0000)
-            }
-            Size::Dword => self.with_register(i, x),
-        }
+        let h = holder(w, i);
+        let v = self.register(h);
+        self.with_register(h, replaced(w, i, v, x))
     }
 
-    // The machine with another value in one of AL CL DL BL AH CH DH BH.
-    fn with_byte(self, i: u32, x: u32) -> Machine
-        ensures { λ r. ⌜ r ≡ withPart self Size.Byte i x ⌝ }
+    // The machine with a change made.
+    pub fn with_change(self, c: Change) -> Machine
+        ensures { λ r. ⌜ r ≡ holding (changed c (self .regs)) (self .eip) (self .flags) ⌝ }
     {
-        let v = self.register(i % 4);
-        if i / 4 % 2 == 0 {
-            self.with_register(i % 4, v - v % 0x100 + x % 0x100)
+        if c.register < 8 {
+            self.with_register(c.register, c.value)
         } else {
-            self.with_register(i % 4, v - v % 0x1_0000 + x % 0x100 * 0x100 + v % 0x100)
+            self
         }
     }
 }

@@ -1,12 +1,13 @@
 // The plan of a step: which operation, at which size, on which operands, and where it goes on.
 ghost use mathlib.Core.Path.{_≡_};
 ghost use Prim.Native.Nat.{_^_, _<_};
+ghost use Rattle.machine.specs.Registers.{Gives};
 ghost use Rattle.plan.specs.Addresses.{scaledIndex, baseRegister, addressBase, effectiveAddress};
 ghost use Rattle.plan.specs.Plans.{sizeOf, operandOf, isOffset, offsetAlone, addressIn, nextOf, planFor, leads, planOf};
 use grammar::instruction::Decoded;
 use grammar::relative::Relative;
 use grammar::rule::Repeat;
-use machine::registers::Machine;
+use machine::registers::register;
 use sense::Operation;
 use sense::Place;
 use sense::Sense;
@@ -43,45 +44,45 @@ pub struct Plan {
 }
 
 // A SIB byte's index: the register times 1, 2, 4 or 8; index 4 is none.
-fn scaled_index(m: Machine, sib: u8) -> u64
-    ensures { λ r. ⌜ (r ≡ scaledIndex m sib) × (r < 2 ^ 35) ⌝ }
+fn scaled_index(regs: &[u32; 8], sib: u8) -> u64
+    ensures { λ r. ⌜ (Gives (now (regs .entry)) (λ m. scaledIndex m sib) r) × (r < 2 ^ 35) ⌝ }
 {
     let index = (sib / 8 % 8) as u32;
     if index == 4 {
         return 0;
     }
-    (m.register(index) as u64) << (sib / 64)
+    (register(regs, index) as u64) << (sib / 64)
 }
 
 // A base register by its number; with Mod 0 number 5 is none.
-fn base_register(m: Machine, modrm: u8, i: u32) -> u32
-    ensures { λ r. ⌜ r ≡ baseRegister m modrm i ⌝ }
+fn base_register(regs: &[u32; 8], modrm: u8, i: u32) -> u32
+    ensures { λ r. ⌜ Gives (now (regs .entry)) (λ m. baseRegister m modrm i) r ⌝ }
 {
     if modrm / 64 != 0 {
-        return m.register(i);
+        return register(regs, i);
     }
     if i == 5 {
         return 0;
     }
-    m.register(i)
+    register(regs, i)
 }
 
 // What the displacement is added to: with R/M 4 what the SIB byte says, else a base register.
-fn address_base(m: Machine, modrm: u8, sib: u8) -> u64
-    ensures { λ r. ⌜ (r ≡ addressBase m modrm sib) × (r < 2 ^ 36) ⌝ }
+fn address_base(regs: &[u32; 8], modrm: u8, sib: u8) -> u64
+    ensures { λ r. ⌜ (Gives (now (regs .entry)) (λ m. addressBase m modrm sib) r) × (r < 2 ^ 36) ⌝ }
 {
     let rm = (modrm % 8) as u32;
     if rm == 4 {
-        return base_register(m, modrm, (sib % 8) as u32) as u64 + scaled_index(m, sib);
+        return base_register(regs, modrm, (sib % 8) as u32) as u64 + scaled_index(regs, sib);
     }
-    base_register(m, modrm, rm) as u64
+    base_register(regs, modrm, rm) as u64
 }
 
 // The effective address.
-pub fn effective_address(m: Machine, a: Address) -> u32
-    ensures { λ r. ⌜ r ≡ effectiveAddress m a ⌝ }
+pub fn effective_address(regs: &[u32; 8], a: Address) -> u32
+    ensures { λ r. ⌜ Gives (now (regs .entry)) (λ m. effectiveAddress m a) r ⌝ }
 {
-    let base = address_base(m, a.modrm, a.sib);
+    let base = address_base(regs, a.modrm, a.sib);
     width::low(Size::Dword, base + a.displacement as u64)
 }
 

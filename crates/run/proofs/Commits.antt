@@ -14,9 +14,12 @@ use Rattle.machine.specs.Memory.{dataBase, constantsBase, holds, storedOf, stor
 use Rattle.machine.proofs.Access.{stored-held, store-outside}
 use Rattle.machine.proofs.Allowed.{constants-unwritten}
 use Rattle.effect.specs.declared.outcome.Outcome.the-variants.{Writes}
-use Rattle.effect.specs.declared.outcome.Effect.{Effect}
-use Rattle.run.specs.declared.step.Stepped.{Stepped}
-use Rattle.run.specs.Steps.{Steps, stop, movedTo, stoppedAt, steppedOf, dataAfter, stored, committed}
+use Rattle.effect.specs.declared.outcome.Changes.{Changes}
+use Rattle.effect.specs.Outcomes.{Effect}
+use Rattle.effect.specs.Changes.{applied}
+use Rattle.run.specs.declared.step.Taken.{Taken}
+use Rattle.run.specs.Steps.{stop, steppedOf, dataAfter, stored, committed}
+use Rattle.run.specs.Taking.{steppedBy, Takes}
 
 -- a store that is outside leaves the data as it was
 unstored : (d : List ℕ) (w : Size) (a v b : ℕ) → storedOf d w a ≡ Stored.Outside b → storeOf d w a v ≡ d
@@ -28,21 +31,21 @@ unstored d w a v b h = by (holds dataBase (length d) (bytes w) a) refl
         absurd (let z : _≡_ {A = ℕ} 0 1 = cc in omega arith)
     by false e = store-outside d w a v e
 
-module _ (e : Effect) (m : Machine) (d : List ℕ) {r : Stepped} {s : Stored} {d′ : List ℕ}
-    (writes : e .outcome ≡ Writes)
-    (answer : s ≡ storedOf d (e .size) (e .address))
-    (left : d′ ≡ storeOf d (e .size) (e .address) (e .value)) where
+module _ (c : Changes) (m : Machine) (d : List ℕ) {s : Stored} {d′ : List ℕ}
+    (writes : c .outcome ≡ Writes)
+    (answer : s ≡ storedOf d (c .size) (c .address))
+    (left : d′ ≡ storeOf d (c .size) (c .address) (c .value)) where
   -- the write is done
-  pub written : s ≡ Done → r ≡ movedTo (e .machine) → Steps (committed (e .outcome) e m d) m d r d′
-  unfolding committed stored steppedOf dataAfter
-  written done is = rw (writes, ← answer, done) (record { is = is; left = left })
+  pub written : s ≡ Done → Takes (committed (c .outcome) (applied c (m .regs)) m d) m d (Taken.Goes c) d′
+  unfolding committed stored steppedOf dataAfter steppedBy applied
+  written done = rw (writes, ← answer, done) (record { is = refl; left = left })
 
   -- the write is not allowed
-  pub unwritten : (b : ℕ) → s ≡ Stored.Outside b → r ≡ stoppedAt m 6 b → Steps (committed (e .outcome) e m d) m d r d′
-  unfolding committed stored steppedOf dataAfter
-  unwritten b outside is =
+  pub unwritten : (b : ℕ) → s ≡ Stored.Outside b → Takes (committed (c .outcome) (applied c (m .regs)) m d) m d (Taken.Stops 6 b) d′
+  unfolding committed stored steppedOf dataAfter steppedBy applied
+  unwritten b outside =
       rw (writes, ← answer, outside)
-      (record { is = is; left = left ∙ unstored d (e .size) (e .address) (e .value) b (sym answer ∙ outside) })
+      (record { is = refl; left = left ∙ unstored d (c .size) (c .address) (c .value) b (sym answer ∙ outside) })
 
 -- a memory destination at a constant's address gives 6, with data of a length that is not refused
 pub constants-give-6 : (e : Effect) (m : Machine) (d : List ℕ) → e .outcome ≡ Writes → length d ≤ 65_536 → constantsBase ≤ e .address

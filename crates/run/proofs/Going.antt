@@ -7,15 +7,24 @@ use native.Mathlib.Numerals.{add-one}
 use native.Mathlib.Omega.{arith}
 use lib.ListN.{length}
 use Rattle.machine.specs.declared.registers.Machine.{Machine}
+use Rattle.effect.specs.declared.outcome.Changes.{Changes}
+use Rattle.effect.specs.Changes.{applied}
 use Rattle.run.specs.declared.step.Stepped.{Stepped}
+use Rattle.run.specs.declared.step.Taken.{Taken}
 use Rattle.run.specs.Steps.{Fixed, Moved, next, stop, stepOf, movedTo, stoppedAt, steppedOf, dataAfter, Steps}
+use Rattle.run.specs.Taking.{steppedBy, Takes}
 use Rattle.run.specs.Runs.{Ends, onMoved, runFrom}
 
 -- a step that did not stop moved to the machine and the data that it hands back
-pub stepped : (moved : Moved) {m : Machine} {d after : List ℕ} {r : Stepped} → Steps moved m d r after → r .stopped ≡ false → moved ≡ next (r .machine) after
+stepped : (moved : Moved) {m : Machine} {d after : List ℕ} {r : Stepped} → Steps moved m d r after → r .stopped ≡ false → moved ≡ next (r .machine) after
 unfolding steppedOf movedTo stoppedAt dataAfter
 stepped (next m′ d′) s going = rw (s .is, s .left)
 stepped (stop n a) s going = absurd (let e = s .is in let z : _≡_ {A = ℕ} 0 1 = cc in omega arith)
+
+-- a step that goes moved to the machine with its changes made, and to the data that it left
+pub went : (moved : Moved) {m : Machine} {d after : List ℕ} (c : Changes) → Takes moved m d (Taken.Goes c) after → moved ≡ next ((applied c (m .regs)) .machine) after
+unfolding steppedBy movedTo
+went moved c s = stepped moved s refl
 
 -- a step that stopped has the number and the address that it hands back, and left the data
 record Halted (moved : Moved) (d after : List ℕ) (r : Stepped) : Type 0 where
@@ -67,10 +76,11 @@ module _ (fixed : Fixed) (d₀ : List ℕ) (budget : ℕ) (m₀ : Machine) where
     ends h = let w = g .within in let none : budget - n ≡ 0 = omega arith in sym (g .end) ∙ rw none
 
     -- the step stops: the run ends with its number and address
-    pub ends-stopped : n < budget → {after : List ℕ} {r : Stepped} → Steps (stepOf fixed m d) m d r after → r .stopped ≡ true
-        → Ends (runFrom fixed budget m₀ d₀ 0) (record { machine = m; steps = n; number = r .number; address = r .address }) after
-    ends-stopped h s stopping =
-        let e = halted (stepOf fixed m d) s stopping in
+    pub ends-stopped : n < budget → {after : List ℕ} {k a : ℕ} → Takes (stepOf fixed m d) m d (Taken.Stops k a) after
+        → Ends (runFrom fixed budget m₀ d₀ 0) (record { machine = m; steps = n; number = k; address = a }) after
+    unfolding steppedBy stoppedAt
+    ends-stopped h s =
+        let e = halted (stepOf fixed m d) s refl in
         rw (stops h (e .at)) (record { is = refl; left = e .same })
 
     -- the budget is used up

@@ -23,7 +23,7 @@ use Rattle.blockcheck.specs.Blocks.{codeBase}
 use Rattle.plan.specs.declared.Plan.{Plan}
 use Rattle.effect.specs.declared.outcome.Outcome.{Outcome}
 use Rattle.effect.specs.declared.outcome.Outcome.the-variants.{Becomes, Writes, Faults}
-use Rattle.effect.specs.declared.outcome.Effect.{Effect}
+use Rattle.effect.specs.Outcomes.{Effect}
 use Rattle.effect.specs.declared.outcome.Reads.{Reads}
 use Rattle.effect.specs.declared.outcome.Reads.the-variants.{Nothing, One, Two}
 use Rattle.run.specs.declared.Lent.{Lent}

@@ -21,7 +21,7 @@ use Rattle.sense.specs.declared.Strings.{Strings}
 use Rattle.sense.specs.declared.Operation.{Operation}
 use Rattle.plan.specs.declared.Plan.{Plan}
 use Rattle.plan.specs.Plans.{nextOf, planFor, planOf}
-use Rattle.effect.specs.declared.outcome.Effect.{Effect}
+use Rattle.effect.specs.Outcomes.{Effect}
 use Rattle.effect.specs.declared.outcome.Reads.the-variants.{Nothing}
 use Rattle.effect.specs.Words.{becomes, onward}
 use Rattle.effect.specs.Branches.{ecx}

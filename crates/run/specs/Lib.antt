@@ -5,4 +5,5 @@ pub mod Runs
 pub mod Standing
 pub mod Pausing
 pub mod Repetitions
+pub mod Taking
 pub mod Sites

@@ -19,7 +19,7 @@ use Rattle.plan.specs.Addresses.{effectiveAddress}
 use Rattle.plan.specs.Plans.{planOf}
 use Rattle.effect.specs.declared.outcome.Outcome.{Outcome}
 use Rattle.effect.specs.declared.outcome.Outcome.the-variants.{Becomes, Writes, Faults}
-use Rattle.effect.specs.declared.outcome.Effect.{Effect}
+use Rattle.effect.specs.Outcomes.{Effect}
 use Rattle.effect.specs.declared.outcome.Reads.{Reads}
 use Rattle.effect.specs.declared.outcome.Reads.the-variants.{Nothing, One, Two}
 use Rattle.effect.specs.All.{addressBy, readsBy, effectBy}

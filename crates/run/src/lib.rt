@@ -6,6 +6,8 @@ use crate::site::is_for;
 use crate::site::site_at;
 use crate::site::stopping;
 use crate::site::take;
+use crate::step::Taken;
+use effect::outcome::make;
 use machine::registers::Machine;
 ghost use mathlib.Core.Path.{_≡_};
 ghost use Rattle.run.specs.Steps.{fixedTo};
@@ -65,42 +67,6 @@ fn refusal(
     12
 }
 
-// So many steps at the most, until one stops. What a step takes from the code alone is kept by EIP modulo 64.
-fn steps(code: &[u8], constants: &[u8], m: Machine, area: &mut [u8], budget: u64) -> End
-    ensures { λ r. ⌜ Ends (runFrom (fixedTo (now (code .entry)) (now (constants .entry))) budget m (now (area .entry)) 0) r (now (area .exit)) ⌝ }
-{
-    let none = stopping(0, 0);
-    let mut kept = [none; 64];
-    let mut at = m;
-    let mut n = 0;
-    while n < budget {
-        let eip = at.eip;
-        let slot = (eip % 64) as usize;
-        let known = kept[slot];
-        if !is_for(known, eip) {
-            kept[slot] = site_at(code, eip);
-        }
-        let here = kept[slot];
-        let s = take(here, at, constants, area);
-        if s.stopped {
-            return End {
-                machine: at,
-                steps: n,
-                number: s.number,
-                address: s.address,
-            };
-        }
-        at = s.machine;
-        n += 1;
-    }
-    End {
-        machine: at,
-        steps: n,
-        number: 0,
-        address: at.eip,
-    }
-}
-
 // The lent machine, with its flags taken apart.
 fn open(l: Lent) -> Machine
     ensures { λ r. ⌜ r ≡ opened l ⌝ }
@@ -110,6 +76,48 @@ fn open(l: Lent) -> Machine
         regs,
         eip: l.eip,
         flags: flags::unpack(l.word),
+    }
+}
+
+// So many steps at the most, until one stops, on the lent registers and flags word. What a step takes from the code alone is kept by EIP modulo 64.
+fn steps(code: &[u8], constants: &[u8], l: Lent, area: &mut [u8], budget: u64) -> End
+    ensures { λ r. ⌜ Ends (runFrom (fixedTo (now (code .entry)) (now (constants .entry))) budget (opened l) (now (area .entry)) 0) r (now (area .exit)) ⌝ }
+{
+    let none = stopping(0, 0);
+    let mut kept = [none; 64];
+    let mut regs = l.regs;
+    let mut eip = l.eip;
+    let mut word = l.word;
+    let mut n = 0;
+    while n < budget {
+        let slot = (eip % 64) as usize;
+        let known = kept[slot];
+        if !is_for(known, eip) {
+            kept[slot] = site_at(code, eip);
+        }
+        let here = kept[slot];
+        match take(here, &regs, eip, word, constants, area) {
+            Taken::Goes(c) => {
+                make(&mut regs, c);
+                eip = c.next;
+                word = c.word;
+            }
+            Taken::Stops { number, address } => {
+                return End {
+                    machine: open(Lent { regs, eip, word }),
+                    steps: n,
+                    number,
+                    address,
+                };
+            }
+        }
+        n += 1;
+    }
+    End {
+        machine: open(Lent { regs, eip, word }),
+        steps: n,
+        number: 0,
+        address: eip,
     }
 }
 
@@ -132,7 +140,7 @@ pub fn run(l: Lent, code: &[u8], constants: &[u8], area: &mut [u8], budget: u64)
 {
     let n = refusal(code.len(), area.len(), constants.len(), l.word, budget);
     if n == 0 {
-        let e = steps(code, constants, open(l), area, budget);
+        let e = steps(code, constants, l, area, budget);
         let m = e.machine;
         return Ran {
             machine: close(m),

@@ -1,11 +1,9 @@
 // What a step at an EIP takes from the code alone, so that it can be kept from one step to the next.
-use crate::step::Stepped;
+use crate::step::Taken;
 use crate::step::follow;
-use crate::step::stop;
 use grammar::instruction::Found;
 use grammar::reader::read;
 use grammar::rule::Repeat;
-use machine::registers::Machine;
 use plan::Address;
 use plan::Operand;
 use plan::Plan;
@@ -15,8 +13,9 @@ use width::Size;
 ghost use mathlib.Core.Path.{_≡_};
 ghost use mathlib.Core.Bool.{_&&_};
 ghost use lib.Dec.{eqb};
-ghost use Rattle.run.specs.Steps.{Steps};
+ghost use Rattle.effect.specs.Changes.{held};
 ghost use Rattle.run.specs.Sites.{siteStep, Stops, Tells};
+ghost use Rattle.run.specs.Taking.{Takes};
 
 // What a step at an EIP comes from: the plan of the instruction there, or else the number that it stops with.
 pub struct Site {
@@ -91,12 +90,22 @@ pub fn is_for(s: Site, eip: u32) -> bool
 }
 
 // The step of a site.
-pub fn take(s: Site, m: Machine, constants: &[u8], area: &mut [u8]) -> Stepped
-    ensures { λ r. ⌜ Steps (siteStep (now (constants .entry)) s m (now (area .entry))) m (now (area .entry)) r (now (area .exit)) ⌝ }
+pub fn take(
+    s: Site,
+    regs: &[u32; 8],
+    eip: u32,
+    word: u32,
+    constants: &[u8],
+    area: &mut [u8],
+) -> Taken
+    ensures { λ r. ⌜ Takes (siteStep (now (constants .entry)) s (held (now (regs .entry)) eip word) (now (area .entry))) (held (now (regs .entry)) eip word) (now (area .entry)) r (now (area .exit)) ⌝ }
 {
     if s.planned {
         let p = s.plan;
-        return follow(p, m, constants, area);
+        return follow(p, regs, eip, word, constants, area);
     }
-    stop(m, s.number, m.eip)
+    Taken::Stops {
+        number: s.number,
+        address: eip,
+    }
 }

@@ -4,16 +4,22 @@ use crate::site::take;
 use effect::all::address_by;
 use effect::all::effect_by;
 use effect::all::reads_by;
-use effect::outcome::Effect;
+use effect::outcome::Changes;
 use effect::outcome::Outcome;
 use effect::outcome::Reads;
+use effect::outcome::after;
 use machine::memory::Loaded;
 use machine::memory::Stored;
 use machine::registers::Machine;
 use plan::Plan;
 use width::Size;
 ghost use mathlib.Core.Path.{_≡_};
+ghost use mathlib.Core.List.{List};
+ghost use Prim.Native.Nat.{ℕ};
+ghost use Rattle.flags.specs.declared.Flags.{Flags};
 ghost use Rattle.machine.specs.Memory.{loadOf};
+ghost use Rattle.machine.specs.Registers.{holding};
+ghost use Rattle.effect.specs.Changes.{held, applied};
 ghost use Rattle.run.specs.Steps.{
   fixedTo,
   stoppedAt,
@@ -27,6 +33,7 @@ ghost use Rattle.run.specs.Steps.{
   committed,
 };
 ghost use Rattle.run.specs.Fetching.{Fetches};
+ghost use Rattle.run.specs.Taking.{steppedBy, Takes};
 
 // What a step comes to: the next machine, or the same one with a number and an address.
 pub struct Stepped {
@@ -36,55 +43,54 @@ pub struct Stepped {
     pub address: u32,
 }
 
-// The step stops; nothing has changed.
-pub fn stop(m: Machine, number: u32, address: u32) -> Stepped
-    ensures { λ r. ⌜ r ≡ stoppedAt m number address ⌝ }
-{
-    Stepped {
-        stopped: true,
-        machine: m,
-        number,
-        address,
-    }
+// What a step does on lent registers: what it changes, or that it stops with a number and an address.
+pub enum Taken {
+    Goes(Changes),
+    Stops { number: u32, address: u32 },
 }
 
-// The step is done.
-fn next(m: Machine) -> Stepped
-    ensures { λ r. ⌜ r ≡ movedTo m ⌝ }
+// The effect's one write, if it has one, and then the changes.
+fn commit(c: Changes, eip: u32, area: &mut [u8]) -> Taken
+    ensures { λ r. ⌜
+        ((regs : List ℕ) (f : Flags)
+        → Takes (committed (c .outcome) (applied c regs) (holding regs eip f) (now (area .entry))) (holding regs eip f) (now (area .entry)) r (now (area .exit)))
+        ⌝ }
 {
-    Stepped {
-        stopped: false,
-        machine: m,
-        number: 0,
-        address: 0,
-    }
-}
-
-// The effect's one write, if it has one, and then the next machine.
-fn commit(e: Effect, m: Machine, area: &mut [u8]) -> Stepped
-    ensures { λ r. ⌜ Steps (committed (e .outcome) e m (now (area .entry))) m (now (area .entry)) r (now (area .exit)) ⌝ }
-{
-    let outcome = e.outcome;
-    let after = e.machine;
+    let outcome = c.outcome;
     match outcome {
-        Outcome::Becomes => next(after),
+        Outcome::Becomes => Taken::Goes(c),
         Outcome::Writes => {
-            let w = e.size;
-            match machine::memory::store(area, w, e.address, e.value) {
-                Stored::Done => next(after),
-                Stored::Outside(a) => stop(m, 6, a),
+            let w = c.size;
+            match machine::memory::store(area, w, c.address, c.value) {
+                Stored::Done => Taken::Goes(c),
+                Stored::Outside(a) => Taken::Stops {
+                    number: 6,
+                    address: a,
+                },
             }
         }
-        Outcome::Faults => stop(m, 7, m.eip),
+        Outcome::Faults => Taken::Stops {
+            number: 7,
+            address: eip,
+        },
     }
 }
 
 // The effect of a plan with what was read, where a is where its operand in memory is.
-fn finish(p: Plan, m: Machine, a: u32, area: &mut [u8], r: u32, s: u32) -> Stepped
-    ensures { λ t. ⌜ Steps (finished p m a (now (area .entry)) r s) m (now (area .entry)) t (now (area .exit)) ⌝ }
+fn finish(
+    p: Plan,
+    regs: &[u32; 8],
+    eip: u32,
+    word: u32,
+    a: u32,
+    area: &mut [u8],
+    r: u32,
+    s: u32,
+) -> Taken
+    ensures { λ t. ⌜ Takes (finished p (held (now (regs .entry)) eip word) a (now (area .entry)) r s) (held (now (regs .entry)) eip word) (now (area .entry)) t (now (area .exit)) ⌝ }
 {
     let op = p.operation;
-    commit(effect_by(op, m, p, a, r, s), m, area)
+    commit(effect_by(op, regs, eip, word, p, a, r, s), eip, area)
 }
 
 // What was read, 0 where nothing was; or the address that is outside.
@@ -141,28 +147,100 @@ fn fetch<'a>(reads: Reads, constants: &'a [u8], area: &'a [u8]) -> Fetched
 }
 
 // The reads, in their order, and then the effect.
-fn perform(reads: Reads, p: Plan, m: Machine, a: u32, constants: &[u8], area: &mut [u8]) -> Stepped
-    ensures { λ r. ⌜ Steps (performed (now (constants .entry)) reads p m a (now (area .entry))) m (now (area .entry)) r (now (area .exit)) ⌝ }
+fn perform(
+    reads: Reads,
+    p: Plan,
+    regs: &[u32; 8],
+    eip: u32,
+    word: u32,
+    a: u32,
+    constants: &[u8],
+    area: &mut [u8],
+) -> Taken
+    ensures { λ r. ⌜ Takes (performed (now (constants .entry)) reads p (held (now (regs .entry)) eip word) a (now (area .entry))) (held (now (regs .entry)) eip word) (now (area .entry)) r (now (area .exit)) ⌝ }
 {
     match fetch(reads, constants, area) {
-        Fetched::Values { first, second } => finish(p, m, a, area, first, second),
-        Fetched::Outside(b) => stop(m, 5, b),
+        Fetched::Values { first, second } => finish(p, regs, eip, word, a, area, first, second),
+        Fetched::Outside(b) => Taken::Stops {
+            number: 5,
+            address: b,
+        },
     }
 }
 
 // The step of a plan.
-pub fn follow(p: Plan, m: Machine, constants: &[u8], area: &mut [u8]) -> Stepped
-    ensures { λ r. ⌜ Steps (planned (now (constants .entry)) p m (now (area .entry))) m (now (area .entry)) r (now (area .exit)) ⌝ }
+pub fn follow(
+    p: Plan,
+    regs: &[u32; 8],
+    eip: u32,
+    word: u32,
+    constants: &[u8],
+    area: &mut [u8],
+) -> Taken
+    ensures { λ r. ⌜ Takes (planned (now (constants .entry)) p (held (now (regs .entry)) eip word) (now (area .entry))) (held (now (regs .entry)) eip word) (now (area .entry)) r (now (area .exit)) ⌝ }
 {
     let op = p.operation;
     let address = p.address;
-    let a = address_by(op, m, p, plan::effective_address(m, address));
-    perform(reads_by(op, m, p, a), p, m, a, constants, area)
+    let a = address_by(op, regs, p, plan::effective_address(regs, address));
+    perform(
+        reads_by(op, regs, p, a),
+        p,
+        regs,
+        eip,
+        word,
+        a,
+        constants,
+        area,
+    )
+}
+
+// The step stops; nothing has changed.
+fn stop(m: Machine, number: u32, address: u32) -> Stepped
+    ensures { λ r. ⌜ r ≡ stoppedAt m number address ⌝ }
+{
+    Stepped {
+        stopped: true,
+        machine: m,
+        number,
+        address,
+    }
+}
+
+// The step is done.
+fn next(m: Machine) -> Stepped
+    ensures { λ r. ⌜ r ≡ movedTo m ⌝ }
+{
+    Stepped {
+        stopped: false,
+        machine: m,
+        number: 0,
+        address: 0,
+    }
+}
+
+// What a step that was taken hands back, of the machine as a value.
+fn answer(m: Machine, t: Taken) -> Stepped
+    ensures { λ r. ⌜ r ≡ steppedBy m t ⌝ }
+{
+    match t {
+        Taken::Goes(c) => next(after(m, c)),
+        Taken::Stops { number, address } => stop(m, number, address),
+    }
 }
 
 // One step.
 pub fn step(code: &[u8], constants: &[u8], m: Machine, area: &mut [u8]) -> Stepped
     ensures { λ r. ⌜ Steps (stepOf (fixedTo (now (code .entry)) (now (constants .entry))) m (now (area .entry))) m (now (area .entry)) r (now (area .exit)) ⌝ }
 {
-    take(site_at(code, m.eip), m, constants, area)
+    let regs = m.regs;
+    let f = m.flags;
+    let t = take(
+        site_at(code, m.eip),
+        &regs,
+        m.eip,
+        flags::pack(f),
+        constants,
+        area,
+    );
+    answer(m, t)
 }

@@ -23,7 +23,7 @@ use Rattle.blockcheck.specs.Blocks.{codeBase, targetOf}
 use Rattle.blockcheck.specs.Starts.{Start, Acceptable}
 use Rattle.blockcheck.proofs.Starts.{start-decodes, falls-through, displacement-lands}
 use Rattle.plan.specs.Plans.{planFor, planOf, nextOf, leads}
-use Rattle.effect.specs.declared.outcome.Effect.{Effect}
+use Rattle.effect.specs.Outcomes.{Effect}
 use Rattle.effect.proofs.Ways.{Way, stays, falls, way}
 use Rattle.run.specs.Steps.{Fixed, Moved, next, stop, home, inside, executed, stepOf}
 use Rattle.run.proofs.Places.{at-home, in-code}

@@ -30,8 +30,7 @@ use Rattle.sense.specs.declared.Arithmetic.{Arithmetic}
 use Rattle.plan.specs.declared.Plan.{Plan}
 use Rattle.effect.specs.declared.outcome.Outcome.{Outcome}
 use Rattle.effect.specs.declared.outcome.Outcome.the-variants.{Becomes, Writes, Faults}
-use Rattle.effect.specs.declared.outcome.Effect.{Effect}
-use Rattle.effect.specs.declared.arithmetic.Computed.{Computed}
+use Rattle.effect.specs.Outcomes.{Effect, Computed}
 use Rattle.effect.specs.Words.{becomes, faults, onward, value}
 use Rattle.effect.specs.Bits.{bitTested, scanned, doubleShifted, bitsComputed}
 use Rattle.effect.specs.Arithmetic as Effects

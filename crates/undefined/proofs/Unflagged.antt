@@ -12,7 +12,7 @@ use Rattle.plan.specs.declared.Operand.the-variants.{Register, Memory, Number}
 use Rattle.plan.specs.declared.Address.{Address}
 use Rattle.plan.specs.declared.Plan.{Plan}
 use Rattle.plan.specs.Addresses.{scaledIndex, baseRegister, addressBase, effectiveAddress}
-use Rattle.effect.specs.declared.arithmetic.Computed.{Computed}
+use Rattle.effect.specs.Outcomes.{Computed}
 use Rattle.effect.specs.Words.{becomes, writes, onward, value, assign}
 use Rattle.effect.specs.Bits.{unitOf}
 use Rattle.effect.specs.Arithmetic.{arithmeticAddress, settled}

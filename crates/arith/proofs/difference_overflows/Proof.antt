@@ -9,7 +9,7 @@ returns : tie.Need-returns
 unfolding overflows
 returns c =
     rw (
-      c .outside .ensures,
+      c .misfits .ensures,
       c .before .bit .ensures .is,
       difference-ranked _ _ _ _ _ _ (c .before .before .before .rank .ensures) (c .before .before .rank2 .ensures),
     )

@@ -6,8 +6,7 @@ use Rattle.arith.specs.Binary.{differenceFlags}
 
 returns : tie.Need-returns
 unfolding differenceFlags
-returns c = rw (c .difference-flags .ensures, c .before .difference-carries .ensures)
+returns c = rw (← c .before .difference-carries .ensures) (c .difference-worked .ensures)
 
 pub subtracted-spec : {M : Type 1} → statement M
-subtracted-spec =
-    tie.close (tie.spec (λ c κs. search needs) (λ c κs. search needs) returns)
+subtracted-spec = tie.close (tie.spec (λ c κs. search needs) (λ c κs. search needs) returns)

@@ -8,11 +8,11 @@ use Rattle.plan.specs.Addresses.{addressBase}
 
 returns : tie.Need-returns
 unfolding addressBase
-returns c = (rw (eq-eqb _ _ (c .before .before .if1 .taken), ← c .scaled-index .ensures .0, ← c .before .base-register .ensures), omega arith)
+returns c = (λ eip f. simp (eq-eqb _ _ (c .before .before .if1 .taken), c .scaled-index .ensures .0, c .before .base-register .ensures), omega arith)
 
 returns-2 : tie.Need-returns-2
 unfolding addressBase
-returns-2 c = (rw (ne-eqb _ _ (c .before .if1 .left)) (c .base-register2 .ensures), omega arith)
+returns-2 c = (λ eip f. simp (ne-eqb _ _ (c .before .if1 .left), c .base-register2 .ensures), omega arith)
 
 pub address-base-spec : {M : Type 1} → statement M
 address-base-spec =

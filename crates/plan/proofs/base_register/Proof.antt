@@ -7,15 +7,15 @@ use Rattle.plan.specs.Addresses.{baseRegister}
 
 returns : tie.Need-returns
 unfolding baseRegister
-returns c = rw (ne-eqb _ _ (c .before .if1 .taken)) (c .register .ensures)
+returns c = λ eip f. rw (ne-eqb _ _ (c .before .if1 .taken)) (c .register .ensures eip f)
 
 returns-2 : tie.Need-returns-2
 unfolding baseRegister
-returns-2 c = rw (eq-eqb _ _ (c .before .if1 .left), eq-eqb _ _ (c .if2 .taken))
+returns-2 c = λ eip f. rw (eq-eqb _ _ (c .before .if1 .left), eq-eqb _ _ (c .if2 .taken))
 
 returns-3 : tie.Need-returns-3
 unfolding baseRegister
-returns-3 c = rw (eq-eqb _ _ (c .before .before .if1 .left), ne-eqb _ _ (c .before .if2 .left)) (c .register2 .ensures)
+returns-3 c = λ eip f. simp (eq-eqb _ _ (c .before .before .if1 .left), ne-eqb _ _ (c .before .if2 .left), c .register2 .ensures)
 
 pub base-register-spec : {M : Type 1} → statement M
 base-register-spec =

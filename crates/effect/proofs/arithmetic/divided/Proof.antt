@@ -6,9 +6,9 @@ use Rattle.effect.specs.Arithmetic.{divided}
 
 returns : tie.Need-returns
 unfolding divided
-returns c = simp (c .quotient .ensures, c .before .div .ensures .is, c .before .before .part2 .ensures .is, c .before .before .before .part .ensures .is, c .before .before .before .before .upper .ensures)
+returns c =
+    rw (← c .quotient .ensures, ← c .before .before .before .before .upper .ensures)
+    (simp (c .before .div .ensures .is, c .before .before .part2 .ensures, c .before .before .before .part .ensures))
 
 pub divided-spec : {M : Type 1} → statement M
-divided-spec =
-    tie.close
-    (tie.spec (λ c κs. search needs) (λ c κs. search needs) (λ c κs. search needs) (λ c κs. search needs) (λ c κs. search needs) returns)
+divided-spec = tie.close (tie.spec (λ c κs. search needs) (λ c κs. search needs) (λ c κs. search needs) (λ c κs. search needs) (λ c κs. search needs) returns)

@@ -6,9 +6,9 @@ use Rattle.effect.specs.Arithmetic.{dividedSigned}
 
 returns : tie.Need-returns
 unfolding dividedSigned
-returns c = simp (c .quotient .ensures, c .before .idiv .ensures .is, c .before .before .part2 .ensures .is, c .before .before .before .part .ensures .is, c .before .before .before .before .upper .ensures)
+returns c =
+    rw (← c .quotient .ensures, ← c .before .before .before .before .upper .ensures)
+    (simp (c .before .idiv .ensures .is, c .before .before .part2 .ensures, c .before .before .before .part .ensures))
 
 pub divided-signed-spec : {M : Type 1} → statement M
-divided-signed-spec =
-    tie.close
-    (tie.spec (λ c κs. search needs) (λ c κs. search needs) (λ c κs. search needs) (λ c κs. search needs) (λ c κs. search needs) returns)
+divided-signed-spec = tie.close (tie.spec (λ c κs. search needs) (λ c κs. search needs) (λ c κs. search needs) (λ c κs. search needs) (λ c κs. search needs) returns)

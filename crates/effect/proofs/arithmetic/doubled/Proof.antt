@@ -6,7 +6,9 @@ use Rattle.effect.specs.Arithmetic.{doubled}
 
 returns : tie.Need-returns
 unfolding doubled
-returns c = simp (c .with-part2 .ensures, c .before .with-part .ensures, c .before .before .upper .ensures)
+returns c =
+    let low = rw (c .before .before .before .none .ensures) at (c .before .before .part-change .ensures) in
+    rw (← c .before .before .before .before .upper .ensures) (simp (low, c .before .part-change2 .ensures, c .becomes .ensures .is))
 
 pub doubled-spec : {M : Type 1} → statement M
-doubled-spec = tie.close (tie.spec (λ c κs. search needs) (λ c κs. search needs) (λ c κs. search needs) returns)
+doubled-spec = tie.close (tie.spec (λ c κs. search needs) (λ c κs. search needs) (λ c κs. search needs) (λ c κs. search needs) (λ c κs. search needs) returns)

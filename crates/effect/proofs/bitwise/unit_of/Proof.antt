@@ -6,7 +6,7 @@ use Rattle.effect.specs.Bits.{unitOf}
 
 returns : tie.Need-returns
 unfolding unitOf
-returns c = simp (c .unit-address .ensures, c .before .value .ensures)
+returns c = λ eip f. simp (c .before .value .ensures, c .unit-address .ensures)
 
 pub unit-of-spec : {M : Type 1} → statement M
 unit-of-spec = tie.close (tie.spec (λ c κs. search needs) (λ c κs. search needs) returns)

@@ -1,26 +1,19 @@
 -- `rounds::repeated` meets its contract. Assumes nothing.
-use mathlib.Core.Path.{sym, _∙_}
+use mathlib.Core.Path.{refl, sym, ap, _∙_}
 use borrow.Author.Needs.{needs}
+use Rattle.effect.specs.Changes.{applied}
+use Rattle.effect.specs.Strings.{withMachine}
+use Rattle.effect.proofs.Passing.{repeats}
 use Rattle.effect.proofs.rounds.repeated.Statement.{statement}
 use Rattle.effect.proofs.rounds.repeated.Tie as tie
-use Rattle.effect.specs.Strings.{repeated}
 
 returns : tie.Need-returns
-unfolding repeated
-returns c = simp (c .with-eip .ensures, c .before .before .before .with-register .ensures, ← c .before .before .before .before .counted .ensures, sym (c .before .before .over .ensures) ∙ c .before .if1 .taken)
+unfolding applied
+returns c = λ regs uncounted left. c .with-count .ensures regs uncounted ∙ ap (withMachine _) (sym (repeats _ _ _ _ _ _ (c .before .before .before .before .whole .ensures _ _ _) left (rw (← c .before .before .before .unpack .ensures, ← c .before .before .over .ensures, c .before .if1 .taken) refl)))
 
 returns-2 : tie.Need-returns-2
-unfolding repeated
-returns-2 c = simp (c .with-eip2 .ensures, c .before .before .before .with-register .ensures, ← c .before .before .before .before .counted .ensures, sym (c .before .before .over .ensures) ∙ c .before .if1 .left)
+unfolding applied
+returns-2 c = λ regs uncounted left. c .with-count2 .ensures regs uncounted ∙ ap (withMachine _) (sym (repeats _ _ _ _ _ _ (c .before .before .before .before .whole .ensures _ _ _) left (rw (← c .before .before .before .unpack .ensures, ← c .before .before .over .ensures, c .before .if1 .left) refl)))
 
 pub repeated-spec : {M : Type 1} → statement M
-repeated-spec =
-    tie.close
-    (tie.spec
-    (λ c κs. search needs)
-    (λ c κs. search needs)
-    (λ c κs. search needs)
-    (λ c κs. search needs)
-    (λ c κs. search needs)
-    returns
-    returns-2)
+repeated-spec = tie.close (tie.spec (λ c κs. search needs) (λ c κs. search needs) (λ c κs. search needs) (λ c κs. search needs) (λ c κs. search needs) returns returns-2)

@@ -1,10 +1,14 @@
 -- `stacks::left` meets its contract. Assumes nothing.
+use Rattle.machine.specs.Registers.{withEip}
+use Rattle.effect.specs.Words.{onward}
+use Rattle.effect.specs.Stacks.{above, stackEffect}
 use borrow.Author.Needs.{needs}
 use Rattle.effect.proofs.stacks.left.Statement.{statement}
 use Rattle.effect.proofs.stacks.left.Tie as tie
 
 returns : tie.Need-returns
-returns c = simp (c .becomes .ensures, c .before .with-register2 .ensures, c .before .before .with-register .ensures, c .before .before .before .onward .ensures, c .before .before .before .before .above .ensures)
+unfolding stackEffect above onward withEip
+returns c = λ a eip. simp (c .becomes .ensures .is, c .before .whole2 .ensures, c .before .before .whole .ensures, ← c .before .before .before .above .ensures, c .before .before .before .before .register .ensures)
 
 pub left-spec : {M : Type 1} → statement M
 left-spec =

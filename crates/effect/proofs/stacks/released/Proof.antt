@@ -2,12 +2,9 @@
 use borrow.Author.Needs.{needs}
 use Rattle.effect.proofs.stacks.released.Statement.{statement}
 use Rattle.effect.proofs.stacks.released.Tie as tie
-use Rattle.effect.specs.Stacks.{above}
 
 returns : tie.Need-returns
-unfolding above
-returns c = simp (c .low .ensures .is, c .before .register .ensures)
+returns c = c .low .ensures .is
 
 pub released-spec : {M : Type 1} → statement M
-released-spec =
-    tie.close (tie.spec (λ c κs. search needs) (λ c. search needs) (λ c. search needs) (λ c. search needs) (λ c κs. search needs) returns)
+released-spec = tie.close (tie.spec (λ c. search needs) (λ c. search needs) (λ c κs. search needs) returns)

@@ -1,12 +1,13 @@
 -- `words::becomes` meets its contract. Assumes nothing.
-use mathlib.Core.Path.{refl}
+use Rattle.effect.specs.Changes.{registersAfter, applied}
+use Rattle.effect.specs.Words.{becomes}
+use borrow.Author.Needs.{needs}
 use Rattle.effect.proofs.words.becomes.Statement.{statement}
 use Rattle.effect.proofs.words.becomes.Tie as tie
-use Rattle.effect.specs.Words.{becomes}
 
 returns : tie.Need-returns
-unfolding becomes
-returns c = refl
+unfolding applied registersAfter becomes
+returns c = record { is = λ regs. simp (c .none .ensures); uncounted = c .none .ensures }
 
 pub becomes-spec : {M : Type 1} → statement M
-becomes-spec = tie.close (tie.spec returns)
+becomes-spec = tie.close (tie.spec (λ c κs. search needs) returns)

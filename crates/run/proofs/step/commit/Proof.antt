@@ -1,43 +1,42 @@
--- `step::commit` meets its contract: the one write, and then the next machine. Assumes nothing.
+-- `step::commit` meets its contract: the one write, and then the changes. Assumes nothing.
 use mathlib.Core.Path.{refl}
-use borrow.Author.Needs.{needs}
+use Rattle.machine.specs.Registers.{holding}
+use Rattle.effect.specs.Changes.{applied}
+use Rattle.run.specs.Steps.{committed, steppedOf, dataAfter}
+use Rattle.run.specs.Taking.{steppedBy}
 use Rattle.run.proofs.Commits.{written, unwritten}
+use borrow.Author.Needs.{needs}
 use Rattle.run.proofs.step.commit.Statement.{statement}
 use Rattle.run.proofs.step.commit.Tie as tie
-use Rattle.run.specs.Steps.{committed, steppedOf, dataAfter}
 
 returns : tie.Need-returns
-unfolding committed steppedOf dataAfter
-returns c = rw (c .before .enum-told .given .1) (record { is = c .next .ensures; left = refl })
+unfolding committed steppedOf dataAfter steppedBy applied
+returns c = λ regs f. rw (c .enum-told .given .1) (record { is = refl; left = refl })
 
 returns-2 : tie.Need-returns-2
 returns-2 c =
-    let s = c .before .before .before .before .before .store .ensures in
-    written _ _ _ (c .before .before .before .before .before .before .before .enum-told2 .given .1) (s .0) (s .1) (c .before .enum-told3 .given .1) (c .next2 .ensures)
+    let s = c .before .before .before .before .store .ensures in
+    λ regs f. written _ (holding regs _ f) _ (c .before .before .before .before .before .before .enum-told2 .given .1) (s .0) (s .1) (c .enum-told3 .given .1)
 
 returns-3 : tie.Need-returns-3
 returns-3 c =
-    let s = c .before .before .before .before .before .before .store .ensures in
-    unwritten _ _ _ (c .before .before .before .before .before .before .before .before .enum-told2 .given .1) (s .0) (s .1) _ (c .before .before .a .given .1) (c .stop .ensures)
+    let s = c .before .before .before .before .before .store .ensures in
+    λ regs f. unwritten _ (holding regs _ f) _ (c .before .before .before .before .before .before .before .enum-told2 .given .1) (s .0) (s .1) _ (c .before .a .given .1)
 
 returns-4 : tie.Need-returns-4
-unfolding committed steppedOf dataAfter
-returns-4 c = rw (c .before .enum-told4 .given .1) (record { is = c .stop2 .ensures; left = refl })
+unfolding committed steppedOf dataAfter steppedBy applied
+returns-4 c = λ regs f. rw (c .enum-told4 .given .1) (record { is = refl; left = refl })
 
 pub commit-spec : {M : Type 1} → statement M
 commit-spec =
     tie.close
     (tie.spec
     (λ c. search needs)
-    (λ c κs. search needs)
     (λ c. search needs)
     (λ c κs. search needs)
     (λ c. search needs)
-    (λ c κs. search needs)
     (λ c. search needs)
-    (λ c κs. search needs)
     (λ c. search needs)
-    (λ c κs. search needs)
     returns
     (λ c. search needs)
     returns-2

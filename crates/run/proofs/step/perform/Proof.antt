@@ -1,20 +1,24 @@
 -- `step::perform` meets its contract. Assumes nothing.
 use mathlib.Core.Path.{refl}
+use Rattle.effect.specs.Changes.{held}
+use Rattle.run.specs.Steps.{steppedOf, dataAfter}
+use Rattle.run.specs.Fetching.{fetched}
+use Rattle.run.specs.Taking.{steppedBy}
 use borrow.Author.Needs.{needs}
 use Rattle.run.proofs.step.perform.Statement.{statement}
 use Rattle.run.proofs.step.perform.Tie as tie
-use Rattle.run.specs.Fetching.{fetched}
-use Rattle.run.specs.Steps.{steppedOf, dataAfter}
 
 returns : tie.Need-returns
 unfolding fetched
-returns c = let a = c .before .before .before .before .before .before .before .before .before .before .before .args in
-    rw (c .before .before .before .before .before .before .before .fetch .ensures .is (a .p) (a .m) (a .a), c .before .before .before .before .before .first .given .1) (c .before .before .finish .ensures)
+returns c =
+    let a = c .before .before .before .before .before .before .before .before .before .before .before .args in
+    rw (c .before .before .before .before .before .before .before .fetch .ensures .is (a .p) (held (a .regs .now) (a .eip) (a .word)) (a .a), c .before .before .before .before .before .first .given .1) (c .before .before .finish .ensures)
 
 returns-2 : tie.Need-returns-2
-unfolding fetched steppedOf dataAfter
-returns-2 c = let a = c .before .before .before .before .before .before .before .before .args in
-    rw (c .before .before .before .before .fetch .ensures .is (a .p) (a .m) (a .a), c .before .before .b .given .1) (record { is = c .stop .ensures; left = refl })
+unfolding fetched steppedOf dataAfter steppedBy
+returns-2 c =
+    let a = c .before .before .before .before .before .before .before .args in
+    rw (c .before .before .before .fetch .ensures .is (a .p) (held (a .regs .now) (a .eip) (a .word)) (a .a), c .before .b .given .1) (record { is = refl; left = refl })
 
 pub perform-spec : {M : Type 1} → statement M
 perform-spec =
@@ -24,7 +28,6 @@ perform-spec =
     (λ c. search needs)
     (λ c κs. search needs)
     (λ c. search needs)
-    (λ c κs. search needs)
     (λ c. search needs)
     returns
     (λ c. search needs)

@@ -1,12 +1,23 @@
 -- `step::step` meets its contract: the step of what stands at EIP. Assumes nothing.
 use mathlib.Core.Path.{refl}
-use borrow.Author.Needs.{needs}
+use Rattle.flags.proofs.RoundTrips.{unpacked}
 use Rattle.run.proofs.Sites.{taken}
+use borrow.Author.Needs.{needs}
 use Rattle.run.proofs.step.step.Statement.{statement}
 use Rattle.run.proofs.step.step.Tie as tie
 
 returns : tie.Need-returns
-returns c = taken (c .before .before .before .before .site-at .ensures) _ refl (c .before .before .take .ensures)
+returns c =
+    rw (c .answer .ensures)
+    (taken (c .before .before .before .before .before .before .before .site-at .ensures) _ refl (rw (c .before .before .before .before .before .pack .ensures .is, unpacked (c .before .before .before .before .before .before .before .before .before .before .before .before .before .args .m .flags)) at (c .before .before .before .take .ensures)))
 
 pub step-spec : {M : Type 1} → statement M
-step-spec = tie.close (tie.spec (λ c κs. search needs) (λ c κs. search needs) (λ c. search needs) returns)
+step-spec =
+    tie.close
+    (tie.spec
+    (λ c κs. search needs)
+    (λ c κs. search needs)
+    (λ c κs. search needs)
+    (λ c κs. search needs)
+    (λ c. search needs)
+    returns)

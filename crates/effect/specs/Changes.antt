@@ -1,0 +1,47 @@
+-- What changes mean: made on lent registers they are an effect's next machine. For the functions that answer changes; nothing here need be believed. Assumes nothing.
+use mathlib.Core.Path.{_≡_}
+use mathlib.Core.List.{List}
+use Prim.Native.Nat.{ℕ}
+use Rattle.flags.specs.Word.{flagsOf}
+use Rattle.machine.specs.declared.registers.Machine.{Machine}
+use Rattle.machine.specs.Registers.{holding, changed}
+use Rattle.effect.specs.declared.arithmetic.Reckoned.{Reckoned}
+use Rattle.effect.specs.declared.outcome.Changes.{Changes}
+use Rattle.effect.specs.Outcomes.{Effect, Computed}
+
+-- the machine of lent registers, EIP and the flags word
+abbrev pub held : List ℕ → ℕ → ℕ → Machine
+held regs eip word = holding regs eip (flagsOf word)
+
+-- the registers after the changes, one made after the other
+unfoldable pub registersAfter : Changes → List ℕ → List ℕ
+registersAfter c regs = changed (c .third) (changed (c .second) (changed (c .first) regs))
+
+-- the effect that the changes are
+unfoldable pub applied : Changes → List ℕ → Effect
+applied c regs =
+    record {
+      outcome = c .outcome;
+      machine = held (registersAfter c regs) (c .next) (c .word);
+      size = c .size;
+      address = c .address;
+      value = c .value;
+    }
+
+-- the changes are what an effect does to the machine of these registers and flags, wherever it is
+abbrev pub Changing : List ℕ → ℕ → (Machine → Effect) → Changes → Type 0
+Changing regs word of c = (eip : ℕ) → of (held regs eip word) ≡ applied c regs
+
+-- the changes come to an effect, of any registers, and ECX is not counted yet
+pub record Comes (of : List ℕ → Effect) (c : Changes) : Type 0 where
+  pub is : (regs : List ℕ) → applied c regs ≡ of regs
+  pub uncounted : (regs : List ℕ) → changed (c .third) regs ≡ regs
+
+-- the same, of these registers
+pub record Round (regs : List ℕ) (e : Effect) (c : Changes) : Type 0 where
+  pub is : e ≡ applied c regs
+  pub uncounted : (rs : List ℕ) → changed (c .third) rs ≡ rs
+
+-- what was reckoned, its flags taken from the word
+unfoldable pub computed : Reckoned → Computed
+computed r = record { flags = flagsOf (r .word); value = r .value; assigned = r .assigned }
