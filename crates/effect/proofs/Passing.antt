@@ -16,7 +16,8 @@ use Rattle.flags.specs.Word.{flagsOf}
 use Rattle.arith.specs.declared.Binary.the-variants.{Cmp}
 use Rattle.arith.specs.Binary.{binaryFlags}
 use Rattle.machine.specs.declared.registers.Machine.{Machine}
-use Rattle.machine.specs.Registers.{register, withRegister, withEip, withFlags, holder, part, withPart, holding}
+use Rattle.machine.specs.Registers.{register, withRegister, withEip, withFlags, holder, part, withPart}
+use Rattle.machine.specs.Lending.{holding}
 use Rattle.grammar.specs.declared.rule.Repeat.{Repeat}
 use Rattle.sense.specs.declared.Strings.{Strings}
 use Rattle.plan.specs.declared.Plan.{Plan}

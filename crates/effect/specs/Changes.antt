@@ -4,7 +4,8 @@ use mathlib.Core.List.{List}
 use Prim.Native.Nat.{ℕ}
 use Rattle.flags.specs.Word.{flagsOf}
 use Rattle.machine.specs.declared.registers.Machine.{Machine}
-use Rattle.machine.specs.Registers.{holding, changed}
+use Rattle.machine.specs.declared.registers.Change.{Change}
+use Rattle.machine.specs.Lending.{holding, changed}
 use Rattle.effect.specs.declared.arithmetic.Reckoned.{Reckoned}
 use Rattle.effect.specs.declared.outcome.Changes.{Changes}
 use Rattle.effect.specs.Outcomes.{Effect, Computed}
@@ -12,6 +13,10 @@ use Rattle.effect.specs.Outcomes.{Effect, Computed}
 -- the machine of lent registers, EIP and the flags word
 abbrev pub held : List ℕ → ℕ → ℕ → Machine
 held regs eip word = holding regs eip (flagsOf word)
+
+-- the change is none: it leaves all registers as they are
+abbrev pub NoChange : Change → Type 0
+NoChange c = (regs : List ℕ) → changed c regs ≡ regs
 
 -- the registers after the changes, one made after the other
 unfoldable pub registersAfter : Changes → List ℕ → List ℕ
@@ -35,12 +40,12 @@ Changing regs word of c = (eip : ℕ) → of (held regs eip word) ≡ applied c 
 -- the changes come to an effect, of any registers, and ECX is not counted yet
 pub record Comes (of : List ℕ → Effect) (c : Changes) : Type 0 where
   pub is : (regs : List ℕ) → applied c regs ≡ of regs
-  pub uncounted : (regs : List ℕ) → changed (c .third) regs ≡ regs
+  pub uncounted : NoChange (c .third)
 
 -- the same, of these registers
 pub record Round (regs : List ℕ) (e : Effect) (c : Changes) : Type 0 where
   pub is : e ≡ applied c regs
-  pub uncounted : (rs : List ℕ) → changed (c .third) rs ≡ rs
+  pub uncounted : NoChange (c .third)
 
 -- what was reckoned, its flags taken from the word
 unfoldable pub computed : Reckoned → Computed

@@ -16,7 +16,7 @@ use crate::stacks::stack_reads;
 use plan::Plan;
 use sense::Operation;
 ghost use mathlib.Core.Path.{_≡_};
-ghost use Rattle.machine.specs.Registers.{Gives};
+ghost use Rattle.machine.specs.Lending.{Gives};
 ghost use Rattle.effect.specs.Changes.{held, applied};
 ghost use Rattle.effect.specs.All.{addressBy, readsBy, effectBy};
 

@@ -22,7 +22,7 @@ use shift::Shift;
 use width::Size;
 ghost use mathlib.Core.Path.{_≡_};
 ghost use Rattle.flags.specs.Word.{flagsOf};
-ghost use Rattle.machine.specs.Registers.{Gives};
+ghost use Rattle.machine.specs.Lending.{Gives};
 ghost use Rattle.effect.specs.Words as W;
 ghost use Rattle.effect.specs.Changes.{held, applied, Changing, computed};
 ghost use Rattle.effect.specs.Arithmetic as Op;

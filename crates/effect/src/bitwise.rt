@@ -9,7 +9,7 @@ use sense::Bits;
 use width::Size;
 ghost use mathlib.Core.Path.{_≡_};
 ghost use Rattle.flags.specs.Word.{flagsOf};
-ghost use Rattle.machine.specs.Registers.{Gives};
+ghost use Rattle.machine.specs.Lending.{Gives};
 ghost use Rattle.effect.specs.Changes.{computed};
 ghost use Rattle.effect.specs.Bits as Op;
 

@@ -23,8 +23,9 @@ ghost use lib.ListN.{getD};
 ghost use Rattle.width.specs.Sizes.{bytes};
 ghost use Rattle.width.specs.Numbers.{rest};
 ghost use Rattle.flags.specs.Word.{flagsOf};
-ghost use Rattle.machine.specs.Registers.{withEip, holding, Gives, changed};
-ghost use Rattle.effect.specs.Changes.{held, applied, Round};
+ghost use Rattle.machine.specs.Registers.{withEip};
+ghost use Rattle.machine.specs.Lending.{holding, Gives, changed};
+ghost use Rattle.effect.specs.Changes.{held, NoChange, applied, Round};
 ghost use Rattle.effect.specs.Branches.{counted};
 ghost use Rattle.effect.specs.Strings as S;
 
@@ -171,7 +172,7 @@ fn with_next(mut c: Changes, next: u32) -> Changes
 // The changes with another EIP, and a register more.
 fn with_count(mut c: Changes, count: Change, next: u32) -> Changes
     ensures { λ r. ⌜
-        ((regs : List ℕ) → ((rs : List ℕ) → changed (c .third) rs ≡ rs)
+        ((regs : List ℕ) → NoChange (c .third)
         → applied r regs
         ≡ S.withMachine (applied c regs) (holding (changed count ((applied c regs) .machine .regs)) next (flagsOf (c .word))))
         ⌝ }
@@ -184,7 +185,7 @@ fn with_count(mut c: Changes, count: Change, next: u32) -> Changes
 // The changes of a round of a repetition: ECX becomes what is left, and EIP moves on where it is over, else it stays at the first prefix.
 fn repeated(again: Repeat, op: Strings, c: Changes, left: u32, p: Plan) -> Changes
     ensures { λ r. ⌜
-        ((regs : List ℕ) → ((rs : List ℕ) → changed (c .third) rs ≡ rs) → counted ((applied c regs) .machine) ≡ left
+        ((regs : List ℕ) → NoChange (c .third) → counted ((applied c regs) .machine) ≡ left
         → applied r regs ≡ S.withMachine (applied c regs) (S.repeated again op ((applied c regs) .machine) p))
         ⌝ }
 {
@@ -223,7 +224,7 @@ pub fn string_reads(op: Strings, regs: &[u32; 8], p: Plan) -> Reads
 // One round, alone or under a prefix, where so many elements are left.
 fn rounded(again: Repeat, op: Strings, c: Changes, left: u32, p: Plan) -> Changes
     ensures { λ r. ⌜
-        ((regs : List ℕ) → ((rs : List ℕ) → changed (c .third) rs ≡ rs) → counted ((applied c regs) .machine) ≡ left
+        ((regs : List ℕ) → NoChange (c .third) → counted ((applied c regs) .machine) ≡ left
         → applied r regs ≡ S.rounded again op (applied c regs) p)
         ⌝ }
 {

@@ -10,7 +10,7 @@ ghost use mathlib.Core.Path.{_≡_};
 ghost use Prim.Native.Nat.{ℕ, _+_};
 ghost use lib.IntN.{pos, subℕ};
 ghost use Rattle.width.specs.Numbers.{rest};
-ghost use Rattle.machine.specs.Registers.{Gives};
+ghost use Rattle.machine.specs.Lending.{Gives};
 ghost use Rattle.effect.specs.Changes.{held, applied, Changing};
 ghost use Rattle.effect.specs.Stacks as S;
 

@@ -10,13 +10,14 @@ use width::Size;
 ghost use mathlib.Core.Path.{_≡_};
 ghost use mathlib.Core.List.{List};
 ghost use Prim.Native.Nat.{ℕ};
-ghost use Rattle.machine.specs.Registers.{withRegister, Gives, Makes, changed};
+ghost use Rattle.machine.specs.Registers.{withRegister};
+ghost use Rattle.machine.specs.Lending.{Gives, Makes, changed};
 ghost use Rattle.effect.specs.Words as W;
-ghost use Rattle.effect.specs.Changes.{held, applied, Comes};
+ghost use Rattle.effect.specs.Changes.{held, NoChange, applied, Comes};
 
 // No register changes.
 pub fn none() -> Change
-    ensures { λ r. ⌜ ((regs : List ℕ) → changed r regs ≡ regs) ⌝ }
+    ensures { λ r. ⌜ NoChange r ⌝ }
 {
     Change {
         register: 8,

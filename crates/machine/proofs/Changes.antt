@@ -12,7 +12,8 @@ use Rattle.width.specs.declared.Size.{Size}
 use Rattle.width.specs.Sizes.{bits}
 use Rattle.flags.specs.declared.Flags.{Flags}
 use Rattle.machine.specs.declared.registers.Change.{Change}
-use Rattle.machine.specs.Registers.{register, withRegister, holder, lowest, replaced, withPart, holding, changed}
+use Rattle.machine.specs.Registers.{register, withRegister, holder, lowest, replaced, withPart}
+use Rattle.machine.specs.Lending.{holding, changed}
 
 -- a value put after another one at the same place may be worked out from the other: for every list, also one that has no such place
 again : (regs : List ℕ) (i x : ℕ) (f : ℕ → ℕ) → set (set regs i x) i (f (getD (set regs i x) i 0)) ≡ set (set regs i x) i (f x)

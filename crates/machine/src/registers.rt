@@ -4,8 +4,6 @@ ghost use mathlib.Core.Bool.{cond};
 ghost use Prim.Native.Nat.{_%_, _<_};
 ghost use lib.Dec.{eqb};
 ghost use Rattle.width.specs.Sizes.{bits};
-ghost use Rattle.width.specs.Numbers.{Is};
-ghost use Rattle.width.specs.declared as Width;
 ghost use Rattle.machine.specs.Registers.{
   register,
   withRegister,
@@ -16,15 +14,12 @@ ghost use Rattle.machine.specs.Registers.{
   part,
   replaced,
   withPart,
-  holding,
-  Gives,
-  Makes,
-  changed,
 };
+ghost use Rattle.machine.specs.Lending.{holding, Gives, Makes, changed};
 use flags::Flags;
 use width::Size;
 
-// While it runs the machine holds its flags apart; the flags word is made where it is handed out.
+// The machine as a value, its flags apart. A run holds registers, EIP and the flags word each by itself.
 pub struct Machine {
     pub regs: [u32; 8],
     pub eip: u32,
@@ -68,7 +63,7 @@ fn byte(regs: &[u32; 8], i: u32) -> u32
 }
 
 // The number of the register that a part lies in, below 8.
-pub fn holder(w: Size, i: u32) -> u32
+fn holder(w: Size, i: u32) -> u32
     ensures { λ r. ⌜ (r ≡ holder w i % 8) × (r < 8) ⌝ }
 {
     match w {
@@ -79,7 +74,7 @@ pub fn holder(w: Size, i: u32) -> u32
 }
 
 // A register's value v with the part i replaced by x.
-pub fn replaced(w: Size, i: u32, v: u32, x: u32) -> u32
+fn replaced(w: Size, i: u32, v: u32, x: u32) -> u32
     ensures { λ r. ⌜ r ≡ replaced (lowest w i) (bits w) v x ⌝ }
 {
     match w {
@@ -132,13 +127,6 @@ pub fn part_change(before: Change, regs: &[u32; 8], w: Size, i: u32, x: u32) -> 
 }
 
 impl Machine {
-    // A whole register.
-    pub fn register(self, i: u32) -> u32
-        ensures { λ r. ⌜ r ≡ register self i ⌝ }
-    {
-        register(&self.regs, i)
-    }
-
     // The machine with another value in a register.
     pub fn with_register(mut self, i: u32, v: u32) -> Machine
         ensures { λ r. ⌜ r ≡ withRegister self i v ⌝ }
@@ -162,22 +150,6 @@ impl Machine {
     {
         self.flags = flags;
         self
-    }
-
-    // The part of a register with the number i at the size.
-    pub fn part(self, w: Size, i: u32) -> u32
-        ensures { λ r. ⌜ Is w (part self w i) r ⌝ }
-    {
-        part(&self.regs, w, i)
-    }
-
-    // The machine with another value in a part.
-    pub fn with_part(self, w: Size, i: u32, x: u32) -> Machine
-        ensures { λ r. ⌜ r ≡ withPart self w i x ⌝ }
-    {
-        let h = holder(w, i);
-        let v = self.register(h);
-        self.with_register(h, replaced(w, i, v, x))
     }
 
     // The machine with a change made.

@@ -1,7 +1,7 @@
 // The plan of a step: which operation, at which size, on which operands, and where it goes on.
 ghost use mathlib.Core.Path.{_≡_};
 ghost use Prim.Native.Nat.{_^_, _<_};
-ghost use Rattle.machine.specs.Registers.{Gives};
+ghost use Rattle.machine.specs.Lending.{Gives};
 ghost use Rattle.plan.specs.Addresses.{scaledIndex, baseRegister, addressBase, effectiveAddress};
 ghost use Rattle.plan.specs.Plans.{sizeOf, operandOf, isOffset, offsetAlone, addressIn, nextOf, planFor, leads, planOf};
 use grammar::instruction::Decoded;

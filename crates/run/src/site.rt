@@ -1,6 +1,7 @@
 // What a step at an EIP takes from the code alone, so that it can be kept from one step to the next.
 use crate::step::Taken;
 use crate::step::follow;
+use crate::step::stops;
 use grammar::instruction::Found;
 use grammar::reader::read;
 use grammar::rule::Repeat;
@@ -104,8 +105,5 @@ pub fn take(
         let p = s.plan;
         return follow(p, regs, eip, word, constants, area);
     }
-    Taken::Stops {
-        number: s.number,
-        address: eip,
-    }
+    stops(s.number, eip)
 }

@@ -18,7 +18,7 @@ ghost use mathlib.Core.List.{List};
 ghost use Prim.Native.Nat.{ℕ};
 ghost use Rattle.flags.specs.declared.Flags.{Flags};
 ghost use Rattle.machine.specs.Memory.{loadOf};
-ghost use Rattle.machine.specs.Registers.{holding};
+ghost use Rattle.machine.specs.Lending.{holding};
 ghost use Rattle.effect.specs.Changes.{held, applied};
 ghost use Rattle.run.specs.Steps.{
   fixedTo,
@@ -49,6 +49,13 @@ pub enum Taken {
     Stops { number: u32, address: u32 },
 }
 
+// The step stops.
+pub fn stops(number: u32, address: u32) -> Taken
+    ensures { λ r. ⌜ r ≡ Taken.Stops number address ⌝ }
+{
+    Taken::Stops { number, address }
+}
+
 // The effect's one write, if it has one, and then the changes.
 fn commit(c: Changes, eip: u32, area: &mut [u8]) -> Taken
     ensures { λ r. ⌜
@@ -63,16 +70,10 @@ fn commit(c: Changes, eip: u32, area: &mut [u8]) -> Taken
             let w = c.size;
             match machine::memory::store(area, w, c.address, c.value) {
                 Stored::Done => Taken::Goes(c),
-                Stored::Outside(a) => Taken::Stops {
-                    number: 6,
-                    address: a,
-                },
+                Stored::Outside(a) => stops(6, a),
             }
         }
-        Outcome::Faults => Taken::Stops {
-            number: 7,
-            address: eip,
-        },
+        Outcome::Faults => stops(7, eip),
     }
 }
 
@@ -161,10 +162,7 @@ fn perform(
 {
     match fetch(reads, constants, area) {
         Fetched::Values { first, second } => finish(p, regs, eip, word, a, area, first, second),
-        Fetched::Outside(b) => Taken::Stops {
-            number: 5,
-            address: b,
-        },
+        Fetched::Outside(b) => stops(5, b),
     }
 }
 

@@ -3,7 +3,8 @@ use mathlib.Core.Path.{refl}
 use Prim.Native.Nat.{_%_, _<_}
 use native.Mathlib.Omega.{arith}
 use borrow.Author.Tests.{lt-ltb}
-use Rattle.machine.specs.Registers.{withRegister, changed}
+use Rattle.machine.specs.Registers.{withRegister}
+use Rattle.machine.specs.Lending.{changed}
 use borrow.Author.Needs.{needs}
 use Rattle.effect.proofs.words.whole.Statement.{statement}
 use Rattle.effect.proofs.words.whole.Tie as tie

@@ -1,7 +1,7 @@
 -- `registers::put` meets its contract: a register of the eight, or none. Assumes nothing.
 use borrow.Author.Tests.{lt-ltb, le-ltb}
 use borrow.Author.Needs.{needs}
-use Rattle.machine.specs.Registers.{changed}
+use Rattle.machine.specs.Lending.{changed}
 use Rattle.machine.proofs.registers.put.Statement.{statement}
 use Rattle.machine.proofs.registers.put.Tie as tie
 

@@ -13,7 +13,7 @@ returns c = rw (c .before .before .before .before .before .if1 .taken) (c .befor
 
 returns-2 : tie.Need-returns-2
 unfolding siteStep steppedOf dataAfter steppedBy
-returns-2 c = rw (c .if1 .left) (record { is = refl; left = refl })
+returns-2 c = rw (c .stops .ensures, c .before .if1 .left) (record { is = refl; left = refl })
 
 pub take-spec : {M : Type 1} → statement M
-take-spec = tie.close (tie.spec (λ c κs. search needs) (λ c. search needs) returns returns-2)
+take-spec = tie.close (tie.spec (λ c κs. search needs) (λ c. search needs) returns (λ c κs. search needs) returns-2)

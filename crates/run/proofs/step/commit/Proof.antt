@@ -1,6 +1,6 @@
 -- `step::commit` meets its contract: the one write, and then the changes. Assumes nothing.
 use mathlib.Core.Path.{refl}
-use Rattle.machine.specs.Registers.{holding}
+use Rattle.machine.specs.Lending.{holding}
 use Rattle.effect.specs.Changes.{applied}
 use Rattle.run.specs.Steps.{committed, steppedOf, dataAfter}
 use Rattle.run.specs.Taking.{steppedBy}
@@ -20,12 +20,14 @@ returns-2 c =
 
 returns-3 : tie.Need-returns-3
 returns-3 c =
-    let s = c .before .before .before .before .before .store .ensures in
-    λ regs f. unwritten _ (holding regs _ f) _ (c .before .before .before .before .before .before .before .enum-told2 .given .1) (s .0) (s .1) _ (c .before .a .given .1)
+    let s = c .before .before .before .before .before .before .store .ensures in
+    λ regs f.
+    rw (c .stops .ensures)
+    (unwritten _ (holding regs _ f) _ (c .before .before .before .before .before .before .before .before .enum-told2 .given .1) (s .0) (s .1) _ (c .before .before .a .given .1))
 
 returns-4 : tie.Need-returns-4
 unfolding committed steppedOf dataAfter steppedBy applied
-returns-4 c = λ regs f. rw (c .enum-told4 .given .1) (record { is = refl; left = refl })
+returns-4 c = λ regs f. rw (c .stops2 .ensures, c .before .enum-told4 .given .1) (record { is = refl; left = refl })
 
 pub commit-spec : {M : Type 1} → statement M
 commit-spec =
@@ -36,7 +38,9 @@ commit-spec =
     (λ c κs. search needs)
     (λ c. search needs)
     (λ c. search needs)
+    (λ c κs. search needs)
     (λ c. search needs)
+    (λ c κs. search needs)
     returns
     (λ c. search needs)
     returns-2

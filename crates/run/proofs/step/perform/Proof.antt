@@ -17,8 +17,8 @@ returns c =
 returns-2 : tie.Need-returns-2
 unfolding fetched steppedOf dataAfter steppedBy
 returns-2 c =
-    let a = c .before .before .before .before .before .before .before .args in
-    rw (c .before .before .before .fetch .ensures .is (a .p) (held (a .regs .now) (a .eip) (a .word)) (a .a), c .before .b .given .1) (record { is = refl; left = refl })
+    let a = c .before .before .before .before .before .before .before .before .args in
+    rw (c .stops .ensures, c .before .before .before .before .fetch .ensures .is (a .p) (held (a .regs .now) (a .eip) (a .word)) (a .a), c .before .before .b .given .1) (record { is = refl; left = refl })
 
 pub perform-spec : {M : Type 1} → statement M
 perform-spec =
@@ -28,6 +28,7 @@ perform-spec =
     (λ c. search needs)
     (λ c κs. search needs)
     (λ c. search needs)
+    (λ c κs. search needs)
     (λ c. search needs)
     returns
     (λ c. search needs)

@@ -2,7 +2,8 @@
 use native.Mathlib.Nat.{mod-eq-of-lt}
 use borrow.Author.Tests.{lt-ltb, le-ltb}
 use borrow.Author.Needs.{needs}
-use Rattle.machine.specs.Registers.{withRegister, changed}
+use Rattle.machine.specs.Registers.{withRegister}
+use Rattle.machine.specs.Lending.{changed}
 use Rattle.machine.proofs.registers.Machine.with_change.Statement.{statement}
 use Rattle.machine.proofs.registers.Machine.with_change.Tie as tie
 
