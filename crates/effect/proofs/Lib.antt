@@ -1,4 +1,5 @@
 -- The laws of `effect`. Assumes nothing.
+pub mod Choosing
 pub mod Elements
 pub mod Passing
 pub mod Repeats

@@ -28,6 +28,7 @@ use Rattle.effect.specs.Branches.{branched, looped, branchEffect}
 use Rattle.effect.specs.Strings.{over, repeated, withMachine, idle, rounded, stringEffect}
 use Rattle.effect.specs.All.{effectBy}
 use Rattle.effect.specs.Ways.{indirectStack, indirectBranch, indirect}
+use Rattle.effect.proofs.Choosing.{chosen}
 use Rattle.effect.proofs.Repeats.{round-keeps}
 
 -- where EIP is after an effect: at the instruction itself, at the next one or at the target
@@ -137,15 +138,10 @@ module _ {m : Machine} {p : Plan} {e : Effect} where
   anywhere : {a : ℕ} → At m a (e .machine) → Course m p true e
   anywhere h = record { way = λ t. absurd (true≢false t); many = h .many }
 
--- what both of two effects have, the one chosen has
-either : {m : Machine} {p : Plan} {e f : Effect} (b : Bool) → Course m p false e → Course m p false f → Course m p false (cond b e f)
-either true x y = x
-either false x y = y
-
 -- an operation whose value is assigned or not falls
 settled-course : (c : Computed) (m : Machine) (p : Plan) (a : ℕ) → Course m p false (settled c m p a)
 unfolding settled
-settled-course c m p a = either (c .assigned) (falling (of-assign (flags-set (on m p) _) _ a _ _)) (falling (of-becomes (flags-set (on m p) _)))
+settled-course c m p a = chosen (Course m p false) (c .assigned) (falling (of-assign (flags-set (on m p) _) _ a _ _)) (falling (of-becomes (flags-set (on m p) _)))
 
 -- a division stays with a fault, and else falls
 quotient-course : (d : Division) (m : Machine) (p : Plan) → Course m p false (quotient d m p)
@@ -237,7 +233,7 @@ string-course : (op : Strings) (m : Machine) (p : Plan) (r s : ℕ) → Course m
 unfolding stringEffect
 string-course op m p r s =
     let kept = round-keeps op m (p .size) r s in
-    either (idle (p .repeat) m) (falling (of-becomes (on m p)))
+    chosen (Course m p false) (idle (p .repeat) m) (falling (of-becomes (on m p)))
     (rounded-course m p _ (record { place = kept .place; many = kept .many }) (p .repeat) op)
 
 -- every operation has one of the ways, unless it is indirect, and keeps the number of registers

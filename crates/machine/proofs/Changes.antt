@@ -7,7 +7,7 @@ use native.Mathlib.Omega.{arith}
 use lib.Dec.{ltb, eqb}
 use lib.ListN.{getD, set}
 use lib.Seq.{getD-set-other}
-use borrow.Author.Tests.{eqb-true, eqb-false, lt-ltb}
+use borrow.Author.Tests.{eq-eqb, ne-eqb, eqb-true, eqb-false, lt-ltb}
 use Rattle.width.specs.declared.Size.{Size}
 use Rattle.width.specs.Sizes.{bits}
 use Rattle.flags.specs.declared.Flags.{Flags}
@@ -48,6 +48,14 @@ after c regs h f low = by (eqb (c .register) h) refl
         let eight : c .register < 8 = omega arith in
         rw (made c regs eight, same) (again regs h (c .value) f)
     by false e = rw (other c regs h (eqb-false (c .register) h e))
+
+-- the value of a register that a change is of is the change's own
+pub own-value : (i h x y : ℕ) → i ≡ h → cond (eqb i h) x y ≡ x
+own-value i h x y e = rw (eq-eqb i h e)
+
+-- that of another register is as before
+pub other-value : (i h x y : ℕ) → (i ≡ h → ⊥) → cond (eqb i h) x y ≡ y
+other-value i h x y ne = rw (ne-eqb i h ne)
 
 -- a part assigned after a change of a register: its holder's value is the change's own where that is the holder, else as before
 pub part-after : (c : Change) (regs : List ℕ) (w : Size) (i x v : ℕ)

@@ -41,10 +41,11 @@ module _ (c : Changes) (m : Machine) (d : List ℕ) {s : Stored} {d′ : List �
   written done = rw (writes, ← answer, done) (record { is = refl; left = left })
 
   -- the write is not allowed
-  pub unwritten : (b : ℕ) → s ≡ Stored.Outside b → Takes (committed (c .outcome) (applied c (m .regs)) m d) m d (Taken.Stops 6 b) d′
+  pub unwritten : (b : ℕ) → s ≡ Stored.Outside b → {t : Taken} → t ≡ Taken.Stops 6 b
+      → Takes (committed (c .outcome) (applied c (m .regs)) m d) m d t d′
   unfolding committed stored steppedOf dataAfter steppedBy applied
-  unwritten b outside =
-      rw (writes, ← answer, outside)
+  unwritten b outside is =
+      rw (is, writes, ← answer, outside)
       (record { is = refl; left = left ∙ unstored d (c .size) (c .address) (c .value) b (sym answer ∙ outside) })
 
 -- a memory destination at a constant's address gives 6, with data of a length that is not refused

@@ -11,6 +11,7 @@ use Rattle.grammar.specs.declared.instruction.Found.{Found}
 use Rattle.blockcheck.specs.Blocks.{codeBase}
 use Rattle.plan.specs.Plans.{planOf}
 use Rattle.effect.proofs.Ways.{regs-kept}
+use Rattle.effect.proofs.Choosing.{chosen}
 use Rattle.run.specs.declared.Lent.{Lent}
 use Rattle.run.specs.Steps.{Fixed, Moved, next, stop, home, inside, executed, stepOf}
 use Rattle.run.proofs.Planned.{Comes, goes-on, planned-comes}
@@ -20,10 +21,6 @@ use Rattle.run.specs.Runs.{Ended, onMoved, runFrom, refusalOf, opened, c
 pub data Keeps (m : Machine) (d : List ℕ) : Moved → Type 0 where
   moves : {m′ : Machine} {d′ : List ℕ} → Kept m d m′ d′ → Keeps m d (next m′ d′)
   stops : {n a : ℕ} → Keeps m d (stop n a)
-
-either : (m : Machine) (d : List ℕ) (b : Bool) {x y : Moved} → Keeps m d x → Keeps m d y → Keeps m d (cond b x y)
-either m d true p q = p
-either m d false p q = q
 
 executed-keeps : (fixed : Fixed) (f : Found) (m : Machine) (d : List ℕ) → Keeps m d (executed fixed f m d)
 unfolding executed
@@ -39,8 +36,8 @@ executed-keeps fixed Found.Unknown m d = stops
 pub step-keeps : (fixed : Fixed) (m : Machine) (d : List ℕ) → Keeps m d (stepOf fixed m d)
 unfolding stepOf
 step-keeps fixed m d =
-    either m d (eqb (m .eip) home) stops
-    (either m d (inside (fixed .code) (m .eip)) (executed-keeps fixed (decodeOf (fixed .code) (m .eip - codeBase)) m d) stops)
+    chosen (Keeps m d) (eqb (m .eip) home) stops
+    (chosen (Keeps m d) (inside (fixed .code) (m .eip)) (executed-keeps fixed (decodeOf (fixed .code) (m .eip - codeBase)) m d) stops)
 
 -- and so do the steps of a run
 pub run-keeps : (fixed : Fixed) (b : ℕ) (m : Machine) (d : List ℕ) (k : ℕ) → Kept m d ((runFrom fixed b m d k) .machine) ((runFrom fixed b m d k) .area)

@@ -26,6 +26,7 @@ use Rattle.effect.specs.declared.outcome.Outcome.the-variants.{Becomes, Writes,
 use Rattle.effect.specs.Outcomes.{Effect}
 use Rattle.effect.specs.declared.outcome.Reads.{Reads}
 use Rattle.effect.specs.declared.outcome.Reads.the-variants.{Nothing, One, Two}
+use Rattle.effect.proofs.Choosing.{chosen}
 use Rattle.run.specs.declared.Lent.{Lent}
 use Rattle.run.specs.Steps.{Fixed, Moved, next, stop, home, inside, stored, committed, finished, loaded, performed, planned, executed, stepOf}
 use Rattle.run.specs.Runs.{Ended, onMoved, runFrom, refusal, refusalOf, opened, taken, refused, runOf}
@@ -86,11 +87,6 @@ module _ (constants d : List ℕ) (long : length d ≤ 65_536) (long′ : length
   performed-stops (One w b) p m a = loaded-stops w b _ _ refl (λ r. finished-stops p m a r 0)
   performed-stops (Two w b c) p m a = loaded-stops w b _ _ refl (λ r. loaded-stops w c _ _ refl (λ s. finished-stops p m a r s))
 
--- one of two
-either : (constants d : List ℕ) (b : Bool) {x y : Moved} → Stops constants d x → Stops constants d y → Stops constants d (cond b x y)
-either constants d true p q = p
-either constants d false p q = q
-
 module _ (fixed : Fixed) (long′ : length (fixed .constants) ≤ 65_536) where
   -- with what was found at EIP
   executed-stops : (f : Found) (m : Machine) (d : List ℕ) → length d ≤ 65_536 → Stops (fixed .constants) d (executed fixed f m d)
@@ -103,8 +99,8 @@ module _ (fixed : Fixed) (long′ : length (fixed .constants) ≤ 65_536) where
   step-stops : (m : Machine) (d : List ℕ) → length d ≤ 65_536 → Stops (fixed .constants) d (stepOf fixed m d)
   unfolding stepOf
   step-stops m d long =
-      either (fixed .constants) d (eqb (m .eip) home) (stops 1 (silent (λ e. omega arith) (λ e. omega arith)))
-      (either (fixed .constants) d (inside (fixed .code) (m .eip)) (executed-stops (decodeOf (fixed .code) (m .eip - codeBase)) m d long)
+      chosen (Stops (fixed .constants) d) (eqb (m .eip) home) (stops 1 (silent (λ e. omega arith) (λ e. omega arith)))
+      (chosen (Stops (fixed .constants) d) (inside (fixed .code) (m .eip)) (executed-stops (decodeOf (fixed .code) (m .eip - codeBase)) m d long)
       (stops 2 (silent (λ e. omega arith) (λ e. omega arith))))
 
   -- with the steps of a run, and data of this length

@@ -1,7 +1,7 @@
 -- A step of acceptable code from a landed address goes on to a landed one, or stops with neither 3 nor 4. Assumes nothing.
 use mathlib.Core.Path.{_≡_, refl, ap, _∙_}
 use mathlib.Core.Logic.{⊎-elim}
-use mathlib.Core.Bool.{Bool, true, false, cond}
+use mathlib.Core.Bool.{false}
 use mathlib.Core.List.{List}
 use Prim.Native.Nat.{ℕ, _+_, _-_, _%_, _^_, _<_, _≤_}
 use native.Mathlib.Omega.{arith}
@@ -24,16 +24,12 @@ use Rattle.blockcheck.specs.Starts.{Start, Acceptable}
 use Rattle.blockcheck.proofs.Starts.{start-decodes, falls-through, displacement-lands}
 use Rattle.plan.specs.Plans.{planFor, planOf, nextOf, leads}
 use Rattle.effect.specs.Outcomes.{Effect}
+use Rattle.effect.proofs.Choosing.{chosen}
 use Rattle.effect.proofs.Ways.{Way, stays, falls, way}
 use Rattle.run.specs.Steps.{Fixed, Moved, next, stop, home, inside, executed, stepOf}
 use Rattle.run.proofs.Places.{at-home, in-code}
 use Rattle.safety.specs.Guidance.{Landed, at-start, outside, indirectFound, indirectAt, Readable}
 use Rattle.run.proofs.Planned.{Comes, goes-on, stops, planned-comes}
-
--- what holds of both of two things holds of the one chosen
-pub chosen : {A : Type 0} (P : A → Type 0) (b : Bool) {x y : A} → P x → P y → P (cond b x y)
-chosen P true x y = x
-chosen P false x y = y
 
 -- a number that is tested for before 3 and 4
 pub early : (n : ℕ) → n < 3 → Readable n

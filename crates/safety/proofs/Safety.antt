@@ -16,8 +16,9 @@ use Rattle.run.specs.declared.Lent.{Lent}
 use Rattle.run.specs.Steps.{Fixed, Moved, next}
 use Rattle.run.specs.Runs.{Ended, HandedBack, onMoved, runFrom, refusal, refusalOf, opened, taken, refused, runOf}
 use Rattle.safety.specs.Guidance.{Landed, at-start, indirectAt, Guided, Readable}
+use Rattle.effect.proofs.Choosing.{chosen}
 use Rattle.safety.proofs.Landings.{early, late}
-use Rattle.safety.proofs.Landings.{chosen, Safe, goes, halts, step-safe}
+use Rattle.safety.proofs.Landings.{Safe, goes, halts, step-safe}
 
 -- what is so with a truth value and without it is so
 decided : {P : Type 0} (b : Bool) → (b ≡ true → P) → (b ≡ false → P) → P

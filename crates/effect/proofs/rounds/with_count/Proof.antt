@@ -1,5 +1,4 @@
 -- `rounds::with_count` meets its contract. Assumes nothing.
-use borrow.Author.Needs.{needs}
 use Rattle.effect.specs.Changes.{registersAfter, applied}
 use Rattle.effect.specs.Strings.{withMachine}
 use Rattle.effect.proofs.rounds.with_count.Statement.{statement}

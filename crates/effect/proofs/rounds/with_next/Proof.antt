@@ -1,6 +1,5 @@
 -- `rounds::with_next` meets its contract. Assumes nothing.
 use mathlib.Core.Path.{refl}
-use borrow.Author.Needs.{needs}
 use Rattle.machine.specs.Registers.{withEip}
 use Rattle.effect.specs.Changes.{registersAfter, applied}
 use Rattle.effect.specs.Strings.{withMachine}

@@ -1,7 +1,6 @@
 -- `words::none` meets its contract: 8 is no register. Assumes nothing.
 use mathlib.Core.Path.{refl}
 use Rattle.machine.specs.Lending.{changed}
-use borrow.Author.Needs.{needs}
 use Rattle.effect.proofs.words.none.Statement.{statement}
 use Rattle.effect.proofs.words.none.Tie as tie
 

@@ -1,11 +1,9 @@
 -- `words::whole` meets its contract. Assumes nothing.
-use mathlib.Core.Path.{refl}
 use Prim.Native.Nat.{_%_, _<_}
 use native.Mathlib.Omega.{arith}
 use borrow.Author.Tests.{lt-ltb}
 use Rattle.machine.specs.Registers.{withRegister}
 use Rattle.machine.specs.Lending.{changed}
-use borrow.Author.Needs.{needs}
 use Rattle.effect.proofs.words.whole.Statement.{statement}
 use Rattle.effect.proofs.words.whole.Tie as tie
 

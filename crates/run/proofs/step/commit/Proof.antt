@@ -21,9 +21,7 @@ returns-2 c =
 returns-3 : tie.Need-returns-3
 returns-3 c =
     let s = c .before .before .before .before .before .before .store .ensures in
-    λ regs f.
-    rw (c .stops .ensures)
-    (unwritten _ (holding regs _ f) _ (c .before .before .before .before .before .before .before .before .enum-told2 .given .1) (s .0) (s .1) _ (c .before .before .a .given .1))
+    λ regs f. unwritten (c .before .before .before .before .before .before .before .before .before .before .before .args .c) (holding regs _ f) _ (c .before .before .before .before .before .before .before .before .enum-told2 .given .1) (s .0) (s .1) _ (c .before .before .a .given .1) (c .stops .ensures)
 
 returns-4 : tie.Need-returns-4
 unfolding committed steppedOf dataAfter steppedBy applied

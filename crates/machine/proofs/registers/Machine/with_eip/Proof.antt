@@ -3,10 +3,7 @@ use mathlib.Core.Path.{refl}
 use Rattle.machine.specs.Registers.{withEip}
 use Rattle.machine.proofs.registers.Machine.with_eip.Statement.{statement}
 use Rattle.machine.proofs.registers.Machine.with_eip.Tie as tie
-use Rattle.machine.proofs.registers.Machine.with_eip.Reads as reads
-use Rattle.machine.proofs.registers.Machine.with_eip.Lts as lts
 
--- src/registers.rt:35:5
 returns : tie.Need-returns
 unfolding withEip
 returns c = refl

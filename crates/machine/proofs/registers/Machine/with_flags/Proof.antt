@@ -3,10 +3,7 @@ use mathlib.Core.Path.{refl}
 use Rattle.machine.specs.Registers.{withFlags}
 use Rattle.machine.proofs.registers.Machine.with_flags.Statement.{statement}
 use Rattle.machine.proofs.registers.Machine.with_flags.Tie as tie
-use Rattle.machine.proofs.registers.Machine.with_flags.Reads as reads
-use Rattle.machine.proofs.registers.Machine.with_flags.Lts as lts
 
--- src/registers.rt:43:5
 returns : tie.Need-returns
 unfolding withFlags
 returns c = refl
