@@ -1,4 +1,4 @@
--- A value and the word of the flags that come with it: what they are together. Assumes nothing.
+-- A value with the word of the flags that come with it. For the functions that give both; nothing here need be believed. Assumes nothing.
 use mathlib.Core.Path.{_≡_}
 use Prim.Native.Nat.{ℕ}
 use Rattle.flags.specs.declared.Flags.{Flags}

@@ -78,7 +78,7 @@ fn difference_adjusts(c: bool, a: u32, b: u32) -> bool
     width::beyond(16, (a % 16) as u64, (b % 16) as u64 + width::bit(c))
 }
 
-// Is p - q no signed number of the size?
+// `width::outside`, for numbers small enough to be added to: two sums and two tests in place of a difference either way.
 fn misfits(w: Size, p: u64, q: u64) -> bool
     requires { ⌜ p < 2 ^ 34 ⌝ }
     requires { ⌜ q < 2 ^ 34 ⌝ }
