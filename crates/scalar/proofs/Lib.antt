@@ -1,0 +1,2 @@
+-- The laws of `scalar`. Assumes nothing.
+pub mod Numbers

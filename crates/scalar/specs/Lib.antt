@@ -1,0 +1,2 @@
+-- The definitions of `scalar`. Assumes nothing.
+pub mod Singles
