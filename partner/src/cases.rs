@@ -5,6 +5,7 @@ mod constants;
 mod ends;
 mod hex;
 mod rooms;
+mod singles;
 
 use std::collections::BTreeMap;
 
@@ -51,7 +52,7 @@ pub enum Case {
     /// A run of the budget, then one of so many more steps, beside one run of both together.
     Resume(RunCase, u64),
     Check(CheckCase),
-    /// A run whose state area has so many words, not 12.
+    /// A run whose state area has so many words, not 20.
     StateLength(RunCase, usize),
     /// A check whose answer area has so many words, not 1.
     AnswerLength(CheckCase, usize),
@@ -61,9 +62,12 @@ pub enum Case {
 }
 
 /// One instruction form with all byte strings, up to the byte after the opcode, that begin it.
+#[derive(Default)]
 struct Form {
     name: String,
     starts: Vec<Vec<u8>>,
+    /// Those of the starts that a SIB byte follows.
+    with_sib: Vec<Vec<u8>>,
 }
 
 /// How big the cases are.
@@ -116,7 +120,7 @@ const LONGEST_TAIL: usize = 11;
 
 /// All instruction forms, found by trying every prefix order, opcode and next byte.
 fn all_forms() -> Vec<Form> {
-    let mut forms: BTreeMap<String, Vec<Vec<u8>>> = BTreeMap::new();
+    let mut forms: BTreeMap<String, Form> = BTreeMap::new();
     let opcodes = (0..=0xFFu8).map(|byte| vec![byte]).chain((0..=0xFFu8).map(|byte| vec![0x0F, byte]));
     for opcode in opcodes {
         for prefixes in PREFIXES {
@@ -129,15 +133,21 @@ fn all_forms() -> Vec<Form> {
                 }
                 if let Ok(instruction) = decode(&bytes) {
                     bytes.truncate(start.min(instruction.length as usize));
-                    let starts = forms.entry(form(&bytes, &instruction)).or_default();
-                    if starts.last() != Some(&bytes) {
-                        starts.push(bytes);
+                    let name = form(&bytes, &instruction);
+                    let form = forms.entry(name.clone()).or_insert(Form { name, ..Form::default() });
+                    if form.starts.last() == Some(&bytes) {
+                        continue;
                     }
+                    let scaled = next < 0xC0 && next & 7 == ESP && !matches!(opcode[0], 0xA0..=0xA3);
+                    if scaled && instruction.memory().is_some() {
+                        form.with_sib.push(bytes.clone());
+                    }
+                    form.starts.push(bytes);
                 }
             }
         }
     }
-    forms.into_iter().map(|(name, starts)| Form { name, starts }).collect()
+    forms.into_values().collect()
 }
 
 impl Generator {
@@ -153,11 +163,13 @@ impl Generator {
 
     /// The next case, at least one in seven a hex file; single instructions go through all forms in turn.
     pub fn next_case(&mut self) -> Case {
-        // Vectors have steps for each form beside these cases, so among these more are hex files.
-        let kinds = if self.size == Size::Small { 1550 } else { 1365 };
+        // Vectors have steps for each form beside these cases, so among these more are hex files and checks.
+        let kinds = if self.size == Size::Small { 1960 } else { 1600 };
         match self.random.below(kinds) {
+            0..=99 if self.size == Size::Small => Case::Check(self.check_whole()),
+            100..=119 if self.size == Size::Small => Case::Check(self.check_lengths()),
             0..=589 => Case::Run(self.single()),
-            590..=649 => Case::Run(self.bits()),
+            590..=649 | 1325..=1344 => Case::Run(self.bits()),
             700..=719 if self.size == Size::Large => Case::Run(self.rooms()),
             720..=729 if self.size == Size::Large => self.rooms_resumed(),
             650..=729 => Case::Run(self.block_run()),
@@ -173,7 +185,7 @@ impl Generator {
             940..=969 => Case::Check(self.check_broken()),
             970..=989 => Case::Check(self.check_lengths()),
             990..=994 => {
-                let length = self.random.pick(&[0, 1, 10, 11, 13, 24]);
+                let length = self.random.pick(&[0, 1, 12, 18, 19, 21, 40]);
                 Case::StateLength(self.single(), length)
             }
             995..=999 => {
@@ -185,7 +197,12 @@ impl Generator {
                 Case::HexAnswerLength(self.hex(), length)
             }
             1005..=1084 => Case::Run(self.at_constants()),
-            1085..=1164 => Case::Run(self.at_ends()),
+            1085..=1164 | 1345..=1364 => Case::Run(self.at_ends()),
+            1165..=1264 => Case::Run(self.singles()),
+            1265..=1279 => Case::Run(self.singles_block()),
+            1280..=1294 => self.singles_resumed(),
+            1295..=1309 => Case::Run(self.near_miss_run()),
+            1310..=1324 => Case::Check(self.near_miss_check()),
             _ => Case::Hex(self.hex()),
         }
     }
@@ -226,13 +243,17 @@ impl Generator {
         }
     }
 
-    /// A machine with random registers at the code's start.
+    /// A machine with random registers and singles at the code's start.
     fn machine(&mut self) -> Machine {
         let mut regs = [0; 8];
         for value in &mut regs {
             *value = self.value();
         }
-        Machine { regs, eip: CODE_BASE, flags: self.flags() }
+        let mut singles = [0; 8];
+        for bits in &mut singles {
+            *bits = self.single_bits();
+        }
+        Machine { regs, eip: CODE_BASE, flags: self.flags(), singles }
     }
 
     /// An address for an access: by their shares around ends or at the constants, else mostly inside the data, often
@@ -262,7 +283,22 @@ impl Generator {
     /// A random instruction of a form, with random displacement and immediate.
     fn instruction_of(&mut self, form: usize) -> Vec<u8> {
         let pick = self.random.below(self.forms[form].starts.len());
-        let mut bytes = self.forms[form].starts[pick].clone();
+        self.completed(self.forms[form].starts[pick].clone())
+    }
+
+    /// The same, if the form has memory operands often with any SIB byte.
+    fn instruction_with_sib_of(&mut self, form: usize) -> Vec<u8> {
+        let count = self.forms[form].with_sib.len();
+        if count == 0 || self.random.percent(60) {
+            return self.instruction_of(form);
+        }
+        let mut bytes = self.forms[form].with_sib[self.random.below(count)].clone();
+        bytes.push(self.random.byte());
+        self.completed(bytes)
+    }
+
+    /// The instruction that begins so, with random bytes behind.
+    fn completed(&mut self, mut bytes: Vec<u8>) -> Vec<u8> {
         let tail = match self.random.below(3) {
             0 => (0..LONGEST_TAIL).map(|_| self.random.byte()).collect(),
             1 => self.bytes(LONGEST_TAIL),
@@ -313,7 +349,7 @@ impl Generator {
 
     /// One instruction alone in its code, with registers and areas that give it something to do.
     fn aimed(&mut self, form: usize, mut areas: Areas) -> RunCase {
-        let mut code = self.instruction_of(form);
+        let mut code = self.instruction_with_sib_of(form);
         let mut machine = self.machine();
         self.aim(&mut code, &mut machine, &mut areas);
         let Areas { constants, data, .. } = areas;
@@ -385,6 +421,9 @@ impl Generator {
                 self.aim_scan(&source, instruction.width, machine, areas);
             }
             Operation::DoubleShift(.., count) if self.random.percent(80) => self.aim_count(&count, code, machine),
+            Operation::Movss(..) | Operation::Single(..) | Operation::Comiss(..) if self.random.percent(90) => {
+                self.aim_single(&instruction, machine, areas);
+            }
             _ => {}
         }
     }
@@ -525,6 +564,13 @@ impl Generator {
         bytes
     }
 
+    /// Leaves out the first parts of a small case's code that has more than 16 bytes.
+    fn shorten(&self, parts: &mut Vec<Vec<u8>>) {
+        while self.size == Size::Small && parts.iter().map(Vec::len).sum::<usize>() > 16 {
+            parts.remove(0);
+        }
+    }
+
     /// A whole block with a stack whose top holds home.
     fn block_run(&mut self) -> RunCase {
         let length = if self.size == Size::Small { 32 } else { self.random.between(32, 300) };
@@ -534,11 +580,7 @@ impl Generator {
         if self.random.percent(80) {
             parts.push(vec![0xC3]);
         }
-        if self.size == Size::Small {
-            while parts.iter().map(Vec::len).sum::<usize>() > 16 {
-                parts.remove(0);
-            }
-        }
+        self.shorten(&mut parts);
         let code = self.linked(parts, 3);
         let mut case = self.with_stack(code, length);
         case.budget = match (self.size, self.random.below(2000)) {
@@ -695,9 +737,7 @@ impl Generator {
         let mut parts: Vec<Vec<u8>> = (0..count)
             .map(|_| if self.random.percent(30) { self.flow_instruction() } else { self.instruction() })
             .collect();
-        while self.size == Size::Small && parts.iter().map(Vec::len).sum::<usize>() > 16 {
-            parts.remove(0);
-        }
+        self.shorten(&mut parts);
         parts
     }
 
@@ -753,6 +793,7 @@ impl Generator {
 fn give(operand: &Operand, width: Width, value: u32, machine: &mut Machine, areas: &mut Areas) {
     match *operand {
         Operand::Register(number) => machine.set_register(number, width, value),
+        Operand::Xmm(number) => machine.singles[usize::from(number)] = value,
         Operand::Memory(address) => areas.plant(effective_address(machine, &address), width, value),
         Operand::Immediate(_) => {}
     }

@@ -3,13 +3,14 @@
 use crate::cases::{Case, CheckCase, Generator, HexCase, RunCase, Size};
 use crate::check::{check, Verdict};
 use crate::coverage::Coverage;
+use crate::decode::PREFIXES;
 use crate::hex::{read, Reading};
 use crate::machine::{Machine, CODE_BASE};
 use crate::run::{run, Outcome};
 use crate::text::{describe, hex, machine_text};
 
-/// Words of the state area: eight registers, EIP, flags, steps, address.
-pub const STATE_WORDS: usize = 12;
+/// Words of the state area: eight registers, EIP, flags, eight singles, steps, address.
+pub const STATE_WORDS: usize = 20;
 /// Words of a check's or a reading's answer area.
 pub const ANSWER_WORDS: usize = 1;
 /// Number for a state or answer area of another length.
@@ -53,31 +54,42 @@ fn partner_run(case: &RunCase, coverage: Option<&mut Coverage>) -> RunResult {
     RunResult { outcome, data }
 }
 
-/// The state area for a machine; steps and address begin with a filler that must be replaced.
-fn state_words(machine: &Machine) -> [u32; STATE_WORDS] {
-    let mut state = [0xA5A5_A5A5; STATE_WORDS];
-    state[..8].copy_from_slice(&machine.regs);
-    state[8] = machine.eip;
-    state[9] = machine.flags;
+/// What steps, address and answers begin with, and what must be replaced.
+const FILLER: u32 = 0xA5A5_A5A5;
+
+/// The state area for a machine, with steps and address.
+pub fn state_words(machine: &Machine, steps: u32, address: u32) -> [u32; STATE_WORDS] {
+    let Machine { regs, eip, flags, singles } = machine;
+    let mut state = [0; STATE_WORDS];
+    state[..8].copy_from_slice(regs);
+    (state[8], state[9]) = (*eip, *flags);
+    state[10..18].copy_from_slice(singles);
+    (state[18], state[19]) = (steps, address);
     state
+}
+
+/// The machine in a state area.
+pub fn machine_in(state: &[u32]) -> Machine {
+    let (mut regs, mut singles) = ([0; 8], [0; 8]);
+    regs.copy_from_slice(&state[..8]);
+    singles.copy_from_slice(&state[10..18]);
+    Machine { regs, eip: state[8], flags: state[9], singles }
 }
 
 /// The other program's result.
 pub(crate) fn other_run(case: &RunCase, other: &dyn Other) -> RunResult {
-    let mut state = state_words(&case.machine);
+    let mut state = state_words(&case.machine, FILLER, FILLER);
     let mut data = case.data.clone();
     let number = other.run(&mut state, &case.code, &case.constants, &mut data, case.budget);
-    let mut regs = [0; 8];
-    regs.copy_from_slice(&state[..8]);
-    let machine = Machine { regs, eip: state[8], flags: state[9] };
-    let outcome = Outcome { machine, steps: u64::from(state[10]), number, address: state[11], undefined: 0 };
+    let [steps, address] = [state[18], state[19]];
+    let outcome = Outcome { machine: machine_in(&state), steps: u64::from(steps), number, address, undefined: 0 };
     RunResult { outcome, data }
 }
 
 /// The other program's verdict and marks.
 pub(crate) fn other_check(case: &CheckCase, other: &dyn Other) -> (Verdict, Vec<u8>) {
     let mut marks = case.marks.clone();
-    let mut answer = [0xA5A5_A5A5; ANSWER_WORDS];
+    let mut answer = [FILLER; ANSWER_WORDS];
     let number = other.check(&case.code, &mut marks, &mut answer);
     (Verdict { number, answer: answer[0] }, marks)
 }
@@ -85,7 +97,7 @@ pub(crate) fn other_check(case: &CheckCase, other: &dyn Other) -> (Verdict, Vec<
 /// The other program's reading and area.
 pub(crate) fn other_hex(case: &HexCase, other: &dyn Other) -> (Reading, Vec<u8>) {
     let mut area = case.area.clone();
-    let mut answer = [0xA5A5_A5A5; ANSWER_WORDS];
+    let mut answer = [FILLER; ANSWER_WORDS];
     let number = other.hex(&case.text, &mut area, &mut answer);
     (Reading { number, answer: answer[0] }, area)
 }
@@ -208,7 +220,7 @@ impl<'a> Comparison<'a> {
     pub fn check(&mut self, case: &CheckCase) {
         let mut our_marks = case.marks.clone();
         let ours = check(&case.code, &mut our_marks);
-        self.coverage.checked(ours.number);
+        self.coverage.checked(&case.code, ours);
         let (theirs, their_marks) = other_check(case, self.other);
         if ours != theirs || our_marks != their_marks {
             self.disagree(Difference::Defined, || {
@@ -249,7 +261,8 @@ impl<'a> Comparison<'a> {
             }
             Case::Check(case) => self.check(case),
             Case::StateLength(case, length) => {
-                let given: Vec<u32> = state_words(&case.machine).into_iter().cycle().take(*length).collect();
+                let words = state_words(&case.machine, FILLER, FILLER);
+                let given: Vec<u32> = words.into_iter().cycle().take(*length).collect();
                 let (mut state, mut data) = (given.clone(), case.data.clone());
                 let number = self.other.run(&mut state, &case.code, &case.constants, &mut data, case.budget);
                 if number != WRONG_AREA || state != given || data != case.data {
@@ -259,7 +272,7 @@ impl<'a> Comparison<'a> {
                 }
             }
             Case::AnswerLength(case, length) => {
-                let given = vec![0xA5A5_A5A5; *length];
+                let given = vec![FILLER; *length];
                 let (mut answer, mut marks) = (given.clone(), case.marks.clone());
                 let number = self.other.check(&case.code, &mut marks, &mut answer);
                 if number != WRONG_AREA || answer != given || marks != case.marks {
@@ -270,7 +283,7 @@ impl<'a> Comparison<'a> {
             }
             Case::Hex(case) => self.hex(case),
             Case::HexAnswerLength(case, length) => {
-                let given = vec![0xA5A5_A5A5; *length];
+                let given = vec![FILLER; *length];
                 let (mut answer, mut area) = (given.clone(), case.area.clone());
                 let number = self.other.hex(&case.text, &mut area, &mut answer);
                 if number != WRONG_AREA || answer != given || area != case.area {
@@ -295,14 +308,28 @@ pub fn compare(other: &dyn Other, seed: u64, count: u64, limit: usize) -> Compar
     comparison
 }
 
-/// Compares the block check on every code of 1 to 3 bytes, alone and with zero bytes behind.
+/// Compares so many calculations and comparisons of singles in two XMM registers.
+pub fn singles(other: &dyn Other, seed: u64, count: u64, limit: usize) -> Comparison<'_> {
+    let mut generator = Generator::new(seed, Size::Large);
+    let mut comparison = Comparison::new(other, std::iter::empty(), limit);
+    for _ in 0..count {
+        comparison.run(&generator.calculation());
+    }
+    comparison
+}
+
+/// Compares the block check on every code of 1 to 3 bytes, and on every order of prefixes with 0F and two more bytes,
+/// alone and with zero bytes behind.
 pub fn sweep(other: &dyn Other, limit: usize) -> Comparison<'_> {
     const ZEROS: usize = 10;
     let mut comparison = Comparison::new(other, std::iter::empty(), limit);
-    for length in 1..=3usize {
+    let short = (1..=3usize).map(|length| (vec![], length));
+    let orders = PREFIXES.into_iter().filter(|order| !order.is_empty());
+    let escaped = orders.map(|order| ([order, &[0x0F]].concat(), 2));
+    for (front, length) in short.chain(escaped) {
         for value in 0..1u32 << (8 * length) {
-            let code = value.to_be_bytes()[4 - length..].to_vec();
-            comparison.check(&CheckCase { marks: vec![7; length], code: code.clone() });
+            let code = [&front, &value.to_be_bytes()[4 - length..]].concat();
+            comparison.check(&CheckCase { marks: vec![7; code.len()], code: code.clone() });
             let longer = [code, vec![0; ZEROS]].concat();
             comparison.check(&CheckCase { marks: vec![7; longer.len()], code: longer });
         }

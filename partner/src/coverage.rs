@@ -6,6 +6,7 @@ mod constants;
 mod hex;
 mod outside;
 mod parity;
+mod singles;
 mod undefined;
 
 use std::collections::BTreeMap;
@@ -16,11 +17,13 @@ use self::constants::{reads_constants, Constants};
 use self::hex::Hex;
 use self::outside::Outside;
 use self::parity::Parity;
+use self::singles::{Singles, Stopped};
 use self::undefined::Undefined;
-use crate::cases::RunCase;
+use crate::cases::{CheckCase, RunCase};
+use crate::check::{check, Verdict};
 use crate::decode::{Instruction, Operand, Operation, PREFIXES};
 use crate::machine::{Machine, Width, CODE_BASE, ECX, HOME, MAX_BYTES};
-use crate::run::{run_observed, Outcome, Seen};
+use crate::run::{run, run_observed, Outcome, Seen};
 use crate::step::Step;
 use crate::text::{form, prefixes};
 
@@ -47,6 +50,22 @@ fn no_code(address: u32, length: u32) -> Option<usize> {
     let places = [0, u32::MAX, CODE_BASE - 1, HOME, CODE_BASE + length];
     let past = address.wrapping_sub(CODE_BASE + MAX_BYTES as u32) < length;
     places.iter().position(|&place| place == address).or(past.then_some(places.len()))
+}
+
+/// The bytes that stopped a run because they begin no instruction.
+fn bytes_at_stop<'a>(outcome: &Outcome, code: &'a [u8]) -> &'a [u8] {
+    match outcome.number {
+        3 | 4 => &code[(outcome.address - CODE_BASE) as usize..],
+        _ => &[],
+    }
+}
+
+/// The bytes for which a check refused the code because they begin no instruction.
+fn bytes_refused(code: &[u8], verdict: Verdict) -> &[u8] {
+    match verdict.number {
+        21 | 22 => &code[verdict.answer as usize..],
+        _ => &[],
+    }
 }
 
 /// The masked count of a shift, rotate or double shift.
@@ -162,6 +181,7 @@ pub struct Coverage {
     parity: Parity,
     constants: Constants,
     outside: Outside,
+    singles: Singles,
     loops: Group,
     starts: Group,
     ends: Group,
@@ -211,6 +231,7 @@ impl Coverage {
             parity: Parity::new(),
             constants: Constants::new(),
             outside: Outside::new(),
+            singles: Singles::new(),
             loops: runs("ways of going round", &LOOPS),
             starts: runs("starts outside the code", &NO_CODE),
             ends: runs("ways out of the code", &NO_CODE),
@@ -234,6 +255,7 @@ impl Coverage {
         self.parity.saw(seen);
         self.constants.saw(seen);
         self.outside.saw(seen);
+        self.singles.saw(seen);
         let count = self.forms.entry(form(seen.bytes, seen.instruction)).or_default();
         match seen.stepped {
             Ok(step) => {
@@ -245,10 +267,11 @@ impl Coverage {
         }
     }
 
-    /// Whether the instruction has a shape that never came, of the groups of M-100, M-101, M-103, M-104 and M-105.
+    /// Whether the instruction has a shape that never came, of the groups of M-100, M-101 and M-103 to M-106.
     pub fn is_new(&self, seen: &Seen) -> bool {
         let flags = self.undefined.is_new(seen) || self.parity.is_new(seen);
-        self.bits.is_new(seen) || flags || self.constants.is_new(seen) || self.outside.is_new(seen)
+        let accesses = self.constants.is_new(seen) || self.outside.is_new(seen);
+        self.bits.is_new(seen) || flags || accesses || self.singles.is_new(seen)
     }
 
     /// Whether the case has a number of constants, or refusals that apply together, that never came.
@@ -281,6 +304,34 @@ impl Coverage {
         self.outside.has_all_short()
     }
 
+    /// Whether every shape of steps with singles came.
+    pub fn has_all_singles(&self) -> bool {
+        self.singles.steps().all(Group::is_full)
+    }
+
+    /// Whether every near miss of an opcode of singles came, in a run and in a check.
+    pub fn has_all_misses(&self) -> bool {
+        self.singles.misses().is_full()
+    }
+
+    /// Whether the run stops at a near miss that never came.
+    pub fn is_new_run_miss(&self, case: &RunCase) -> bool {
+        let RunCase { machine, code, constants, data, budget } = case;
+        let outcome = run(*machine, code, constants, &mut data.clone(), *budget);
+        self.singles.is_new_miss(bytes_at_stop(&outcome, code), Stopped::Run)
+    }
+
+    /// Whether the check stops at a near miss that never came.
+    pub fn is_new_check_miss(&self, case: &CheckCase) -> bool {
+        let verdict = check(&case.code, &mut case.marks.clone());
+        self.singles.is_new_miss(bytes_refused(&case.code, verdict), Stopped::Check)
+    }
+
+    /// How often each operation with singles came, and each of its results, with their names.
+    pub fn single_counts(&self) -> Vec<(String, u64)> {
+        self.singles.counts()
+    }
+
     /// Whether every number of constants and all refusals that apply together came.
     pub fn has_all_cases(&self) -> bool {
         self.constants.cases().all(Group::is_full)
@@ -307,6 +358,7 @@ impl Coverage {
         self.resumed += u64::from(course.resumed && outcome.steps > 0);
         self.resumed_with_constants += u64::from(course.resumed && course.constants);
         self.jumped += u64::from(course.jumped);
+        self.singles.missed(bytes_at_stop(outcome, code), Stopped::Run);
         for (place, _) in course.loops.iter().enumerate().filter(|(_, met)| **met) {
             self.loops.count(place);
         }
@@ -321,9 +373,10 @@ impl Coverage {
         self.course.resumed = self.inside;
     }
 
-    /// Counts the number that a check gave.
-    pub fn checked(&mut self, number: u32) {
-        *self.checks.entry(number).or_default() += 1;
+    /// Counts the verdict that a check of the code gave.
+    pub fn checked(&mut self, code: &[u8], verdict: Verdict) {
+        *self.checks.entry(verdict.number).or_default() += 1;
+        self.singles.missed(bytes_refused(code, verdict), Stopped::Check);
     }
 
     /// Counts a hex file read with an area of this length.
@@ -365,7 +418,9 @@ impl Coverage {
         let flags = self.undefined.groups().chain([self.parity.group()]);
         let constants = self.constants.accesses().chain(self.constants.cases());
         let accesses = constants.chain(self.outside.groups());
-        steps.chain(self.bits.groups()).chain(flags).chain(accesses).chain(runs).chain(self.hex.groups())
+        let singles = self.singles.steps().chain([self.singles.misses()]);
+        let instructions = steps.chain(self.bits.groups()).chain(flags).chain(accesses).chain(singles);
+        instructions.chain(runs).chain(self.hex.groups())
     }
 
     /// Forms that never finished a step, and numbers and courses that never came.

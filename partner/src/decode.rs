@@ -37,6 +37,8 @@ impl Address {
 #[derive(Clone, Copy, PartialEq, Eq, Debug)]
 pub enum Operand {
     Register(u8),
+    /// The single in an XMM register.
+    Xmm(u8),
     Memory(Address),
     Immediate(u32),
 }
@@ -89,6 +91,17 @@ pub enum DoubleShift {
     Shrd,
 }
 
+/// The six calculations with singles.
+#[derive(Clone, Copy, PartialEq, Eq, Debug)]
+pub enum Single {
+    Addss,
+    Mulss,
+    Subss,
+    Minss,
+    Divss,
+    Maxss,
+}
+
 /// The four instructions that look at ECX and jump.
 #[derive(Clone, Copy, PartialEq, Eq, Debug)]
 pub enum Loop {
@@ -108,7 +121,7 @@ pub enum Text {
     Scas,
 }
 
-/// A repeat prefix.
+/// A repeat prefix, or F3 where an opcode asks for it.
 #[derive(Clone, Copy, PartialEq, Eq, Debug)]
 pub enum Repeat {
     /// F3: REP, or REPE before CMPS and SCAS.
@@ -183,6 +196,12 @@ pub enum Operation {
     Cld,
     Std,
     Text(Text),
+    /// MOVSS: destination and source.
+    Movss(Operand, Operand),
+    /// A calculation with singles: the XMM register that is first operand and destination, and the second operand.
+    Single(Single, u8, Operand),
+    /// COMISS: the XMM register that is compared, and what with.
+    Comiss(u8, Operand),
 }
 
 /// One decoded instruction.
@@ -193,6 +212,7 @@ pub struct Instruction {
     pub opcode: u16,
     /// Size of the operands, unless the operation says otherwise.
     pub width: Width,
+    /// None where F3 belongs to the opcode.
     pub repeat: Option<Repeat>,
     pub operation: Operation,
 }
@@ -222,6 +242,8 @@ impl Instruction {
             Operation::Scan(_, _, from) | Operation::Cmov(_, _, from) => vec![from],
             Operation::Push(from) => vec![from],
             Operation::Call(Target::Absolute(operand)) | Operation::Jmp(Target::Absolute(operand)) => vec![operand],
+            Operation::Movss(to, from) => vec![to, from],
+            Operation::Single(_, _, from) | Operation::Comiss(_, from) => vec![from],
             _ => vec![],
         };
         operands.into_iter().find_map(|operand| match operand {
@@ -267,6 +289,16 @@ impl Reader<'_> {
             return Err(Refusal::NoSuch);
         }
         let rm = self.operand(byte >> 6, byte & 7)?;
+        Ok(ModRm { reg, rm })
+    }
+
+    /// A ModR/M byte whose reg field, and whose r/m field if that is no memory, are XMM registers.
+    fn modrm_xmm(&mut self) -> Result<ModRm, Refusal> {
+        let ModRm { reg, rm } = self.modrm()?;
+        let rm = match rm {
+            Operand::Register(number) => Operand::Xmm(number),
+            memory => memory,
+        };
         Ok(ModRm { reg, rm })
     }
 
@@ -323,10 +355,24 @@ fn allows_word(opcode: u16) -> bool {
     }
 }
 
-/// Where a repeat prefix is allowed, by document 01.
+/// Opcodes that are asked to have F3, by document 02 (M-106).
+fn asks_f3(opcode: u16) -> bool {
+    matches!(opcode, 0x0F10 | 0x0F11 | 0x0F58 | 0x0F59 | 0x0F5C..=0x0F5F)
+}
+
+/// Whether some opcode after 0F may have these prefixes.
+fn allows_escape(word: bool, repeat: Option<Repeat>) -> bool {
+    match repeat {
+        None => true,
+        Some(Repeat::WhileEqual) => !word,
+        Some(Repeat::WhileNotEqual) => false,
+    }
+}
+
+/// Where F2 or F3 is allowed, by documents 01 and 02.
 fn allows_repeat(opcode: u16, repeat: Repeat) -> bool {
     match repeat {
-        Repeat::WhileEqual => matches!(opcode, 0xA4..=0xA7 | 0xAA..=0xAF),
+        Repeat::WhileEqual => matches!(opcode, 0xA4..=0xA7 | 0xAA..=0xAF) || asks_f3(opcode),
         Repeat::WhileNotEqual => matches!(opcode, 0xA6 | 0xA7 | 0xAE | 0xAF),
     }
 }
@@ -368,6 +414,18 @@ fn bit_test(number: u8) -> BitTest {
     }
 }
 
+/// The calculation with singles that this opcode gives.
+fn single(opcode: u16) -> Single {
+    match opcode {
+        0x0F58 => Single::Addss,
+        0x0F59 => Single::Mulss,
+        0x0F5C => Single::Subss,
+        0x0F5D => Single::Minss,
+        0x0F5E => Single::Divss,
+        _ => Single::Maxss,
+    }
+}
+
 /// Decodes the instruction that the bytes begin with.
 pub fn decode(bytes: &[u8]) -> Result<Instruction, Refusal> {
     let mut reader = Reader { bytes, at: 0 };
@@ -381,13 +439,16 @@ pub fn decode(bytes: &[u8]) -> Result<Instruction, Refusal> {
             byte => break byte,
         }
     };
-    // No instruction with a repeat prefix has an opcode after 0F.
     let opcode = match first {
-        0x0F if repeat.is_some() => return Err(Refusal::NoSuch),
+        0x0F if !allows_escape(word, repeat) => return Err(Refusal::NoSuch),
         0x0F => 0x0F00 | u16::from(reader.byte()?),
         byte => u16::from(byte),
     };
     if word && !allows_word(opcode) || repeat.is_some_and(|kind| !allows_repeat(opcode, kind)) {
+        return Err(Refusal::NoSuch);
+    }
+    // F3 before these belongs to the opcode and repeats nothing.
+    if asks_f3(opcode) && repeat.take().is_none() {
         return Err(Refusal::NoSuch);
     }
     let (width, operation) = body(&mut reader, opcode, word)?;
@@ -396,7 +457,7 @@ pub fn decode(bytes: &[u8]) -> Result<Instruction, Refusal> {
 
 /// Decodes what follows the opcode.
 fn body(reader: &mut Reader, opcode: u16, word: bool) -> Result<(Width, Operation), Refusal> {
-    use Operand::{Immediate, Register};
+    use Operand::{Immediate, Register, Xmm};
     use Width::{Byte, Dword, Word};
 
     let full = if word { Word } else { Dword };
@@ -566,9 +627,22 @@ fn body(reader: &mut Reader, opcode: u16, word: bool) -> Result<(Width, Operatio
             };
             (full, operation)
         }
+        0x0F10 | 0x0F11 => {
+            let m = reader.modrm_xmm()?;
+            let (load, store) = (Operation::Movss(Xmm(m.reg), m.rm), Operation::Movss(m.rm, Xmm(m.reg)));
+            (Dword, if opcode == 0x0F10 { load } else { store })
+        }
+        0x0F2F => {
+            let m = reader.modrm_xmm()?;
+            (Dword, Operation::Comiss(m.reg, m.rm))
+        }
         0x0F40..=0x0F4F => {
             let m = reader.modrm()?;
             (full, Operation::Cmov(condition, m.reg, m.rm))
+        }
+        0x0F58 | 0x0F59 | 0x0F5C..=0x0F5F => {
+            let m = reader.modrm_xmm()?;
+            (Dword, Operation::Single(single(opcode), m.reg, m.rm))
         }
         0x0F80..=0x0F8F => (Dword, Operation::Jcc(condition, reader.immediate(Dword)?)),
         0x0F90..=0x0F9F => (Byte, Operation::Setcc(condition, reader.modrm()?.rm)),

@@ -13,6 +13,7 @@ pub mod remote;
 pub mod run;
 #[cfg(sangolid)]
 pub mod sangolid;
+pub mod singles;
 pub mod step;
 pub mod text;
 pub mod vectors;

@@ -1,4 +1,4 @@
-//! The machine: registers, flags, operand widths and the access rules of data and constants.
+//! The machine: registers, flags, singles, operand widths and the access rules of data and constants.
 
 /// Address of the first code byte.
 pub const CODE_BASE: u32 = 0x0001_0000;
@@ -101,13 +101,15 @@ pub struct FlagEffect {
     pub undefined: u32,
 }
 
-/// Registers, instruction pointer and flags.
+/// Registers, instruction pointer, flags and singles.
 #[derive(Clone, Copy, PartialEq, Eq, Debug)]
 pub struct Machine {
     /// EAX, ECX, EDX, EBX, ESP, EBP, ESI, EDI.
     pub regs: [u32; 8],
     pub eip: u32,
     pub flags: u32,
+    /// XMM0 to XMM7, of which only the low single is kept, by its bits.
+    pub singles: [u32; 8],
 }
 
 impl Machine {

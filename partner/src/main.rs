@@ -3,12 +3,13 @@
 use std::io::{self, BufWriter, Write};
 use std::process::ExitCode;
 
-use partner::compare::{compare, sweep, Comparison, Other};
+use partner::compare::{compare, singles, sweep, Comparison, Other};
 use partner::vectors::write_vectors;
 
 const USAGE: &str = "usage:
   partner compare --seed S --count N [--limit L]   random cases beside Sangolid
-  partner sweep [--limit L]                        block check of every code of 1 to 3 bytes beside Sangolid
+  partner singles --seed S --count N [--limit L]   random calculations and comparisons of singles beside Sangolid
+  partner sweep [--limit L]                        block check of every short code beside Sangolid
   partner vectors --seed S --count N               cases with expected results, one a line
   partner replies --seed S --count N               the same lines with Sangolid's results";
 
@@ -72,6 +73,15 @@ fn carry_out(arguments: &[String]) -> Result<bool, String> {
             let (limit, other) = (limit()?, sangolid()?);
             let comparison = compare(&*other, seed, count, limit);
             print!("{}", comparison.coverage);
+            Ok(print(&comparison))
+        }
+        Some("singles") => {
+            let (seed, count) = seed_and_count()?;
+            let (limit, other) = (limit()?, sangolid()?);
+            let comparison = singles(&*other, seed, count, limit);
+            for (name, count) in comparison.coverage.single_counts() {
+                println!("{count}\t{name}");
+            }
             Ok(print(&comparison))
         }
         Some("sweep") => {

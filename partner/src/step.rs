@@ -11,6 +11,7 @@ use crate::machine::{
     read, write, FlagEffect, Machine, Refused, Width, AF, AH, ALWAYS, CF, CODE_BASE, DF, EAX, EBP, ECX, EDI, EDX, ESI,
     ESP, HOME, OF, PF, SF, ZF,
 };
+use crate::singles::{calculate, compare};
 
 /// Why a step can't be taken.
 #[derive(Clone, Copy, PartialEq, Eq, Debug)]
@@ -57,6 +58,8 @@ pub struct Step {
     pub flags: FlagEffect,
     /// The destination, if 003 leaves it undefined; it keeps its value, as document 02 says.
     pub kept: Option<Operand>,
+    /// First and second operand of a calculation with singles or of a comparison of them.
+    pub operands: Option<(u32, u32)>,
 }
 
 /// The instruction at EIP and its bytes.
@@ -107,6 +110,7 @@ struct Execution<'a> {
     width: Width,
     flags: FlagEffect,
     kept: Option<Operand>,
+    operands: Option<(u32, u32)>,
 }
 
 /// Carries out one instruction; a stop has no effect on the data.
@@ -119,15 +123,16 @@ pub fn execute(machine: &Machine, instruction: &Instruction, constants: &[u8], d
         width: instruction.width,
         flags: FlagEffect::default(),
         kept: None,
+        operands: None,
     };
     execution.after.eip = machine.eip.wrapping_add(instruction.length);
     match (instruction.operation, instruction.repeat) {
         (Operation::Text(text), Some(repeat)) => execution.repeated(text, repeat)?,
         (operation, _) => execution.operate(operation)?,
     }
-    let Execution { mut after, flags, kept, .. } = execution;
+    let Execution { mut after, flags, kept, operands, .. } = execution;
     after.apply(flags);
-    Ok(Step { machine: after, flags, kept })
+    Ok(Step { machine: after, flags, kept, operands })
 }
 
 impl Execution<'_> {
@@ -155,6 +160,7 @@ impl Execution<'_> {
     fn value_at(&self, operand: Operand, width: Width) -> Result<u32, Stop> {
         match operand {
             Operand::Register(number) => Ok(self.before.register(number, width)),
+            Operand::Xmm(number) => Ok(self.before.singles[usize::from(number)]),
             Operand::Memory(address) => self.load(effective_address(&self.before, &address), width),
             Operand::Immediate(value) => Ok(value & width.mask()),
         }
@@ -165,10 +171,11 @@ impl Execution<'_> {
         self.value_at(operand, self.width)
     }
 
-    /// Writes a register or memory operand at the instruction's width.
+    /// Writes a register or memory operand at the instruction's width; a single has all its bits.
     fn put(&mut self, operand: Operand, value: u32) -> Result<(), Stop> {
         match operand {
             Operand::Register(number) => self.after.set_register(number, self.width, value),
+            Operand::Xmm(number) => self.after.singles[usize::from(number)] = value,
             Operand::Memory(address) => {
                 self.store(effective_address(&self.before, &address), self.width, value)?;
             }
@@ -197,6 +204,13 @@ impl Execution<'_> {
             (Operand::Memory(address), Operand::Register(_)) => (Operand::Memory(address.moved(distance)), bit),
             _ => (base, bit),
         })
+    }
+
+    /// The single in an XMM register and the second operand beside it, which are noted.
+    fn both(&mut self, first: u8, second: Operand) -> Result<(u32, u32), Stop> {
+        let operands = (self.value(Operand::Xmm(first))?, self.value(second)?);
+        self.operands = Some(operands);
+        Ok(operands)
     }
 
     /// Sets the given flags to the given bits.
@@ -473,6 +487,21 @@ impl Execution<'_> {
             // 003: STD.
             Operation::Std => self.set_flags(DF, DF),
             Operation::Text(text) => self.round(text)?,
+            // 003: MOVSS.
+            Operation::Movss(to, from) => {
+                let value = self.value(from)?;
+                self.put(to, value)?;
+            }
+            // 003: ADDSS, MULSS, SUBSS, MINSS, DIVSS, MAXSS.
+            Operation::Single(kind, to, from) => {
+                let (first, second) = self.both(to, from)?;
+                self.put(Operand::Xmm(to), calculate(kind, first, second))?;
+            }
+            // 003: COMISS.
+            Operation::Comiss(left, right) => {
+                let (first, second) = self.both(left, right)?;
+                self.flags = compare(first, second);
+            }
         }
         Ok(())
     }

@@ -42,6 +42,7 @@ fn address_text(address: &Address) -> String {
 fn operand_text(operand: &Operand, width: Width) -> String {
     match operand {
         Operand::Register(number) => register_name(*number, width).to_string(),
+        Operand::Xmm(number) => format!("XMM{number}"),
         Operand::Memory(address) => {
             let size = match width {
                 Width::Byte => "byte",
@@ -54,10 +55,11 @@ fn operand_text(operand: &Operand, width: Width) -> String {
     }
 }
 
-/// An operand's kind: r, m or imm with its bits.
+/// An operand's kind: r or m with its bits, xmm or imm.
 fn operand_kind(operand: &Operand, width: Width) -> String {
     match operand {
         Operand::Register(_) => format!("r{}", width.bits()),
+        Operand::Xmm(_) => "xmm".to_string(),
         Operand::Memory(_) => format!("m{}", width.bits()),
         Operand::Immediate(_) => "imm".to_string(),
     }
@@ -139,6 +141,11 @@ fn parts(instruction: &Instruction) -> (String, Vec<(Operand, Width)>) {
             };
             (upper(format!("{repeat}{text:?}{suffix}")), vec![])
         }
+        Operation::Movss(to, from) => ("MOVSS".into(), vec![(to, width), (from, width)]),
+        Operation::Single(kind, to, from) => {
+            (upper(format!("{kind:?}")), vec![(Operand::Xmm(to), width), (from, width)])
+        }
+        Operation::Comiss(left, right) => ("COMISS".into(), vec![(Operand::Xmm(left), width), (right, width)]),
     }
 }
 
@@ -197,11 +204,15 @@ pub fn hex(bytes: &[u8]) -> String {
     bytes.iter().map(|byte| format!("{byte:02X}")).collect()
 }
 
-/// The eight registers, EIP and flags on one line.
+/// The eight registers, EIP, flags and the eight singles on one line.
 pub fn machine_text(machine: &Machine) -> String {
     let mut text = String::new();
     for (name, value) in DWORD_NAMES.iter().zip(machine.regs) {
         text += &format!("{name}={value:08X} ");
     }
-    format!("{text}EIP={:08X} flags={:08X}", machine.eip, machine.flags)
+    text += &format!("EIP={:08X} flags={:08X}", machine.eip, machine.flags);
+    for (number, bits) in machine.singles.iter().enumerate() {
+        text += &format!(" XMM{number}={bits:08X}");
+    }
+    text
 }

@@ -15,7 +15,8 @@ use crate::text::hex;
 pub const HEADER: &str =
     "kind\teax\tecx\tedx\tebx\tesp\tebp\tesi\tedi\teip\tflags\tbudget\tcode_len\tcode\tarea_len\tarea\
 \tnumber\tsteps\taddress\teax_out\tecx_out\tedx_out\tebx_out\tesp_out\tebp_out\tesi_out\tedi_out\teip_out\tflags_out\
-\tundefined\tarea_out\tconstants_len\tconstants";
+\tundefined\tarea_out\tconstants_len\tconstants\txmm0\txmm1\txmm2\txmm3\txmm4\txmm5\txmm6\txmm7\
+\txmm0_out\txmm1_out\txmm2_out\txmm3_out\txmm4_out\txmm5_out\txmm6_out\txmm7_out";
 
 /// Bytes as hex without the zero bytes at their end.
 fn sparse(bytes: &[u8]) -> String {
@@ -23,18 +24,21 @@ fn sparse(bytes: &[u8]) -> String {
     hex(&bytes[..end])
 }
 
-/// The ten words of a machine, tab-parted.
+/// Words in hex, tab-parted.
+fn columns<'a>(words: impl IntoIterator<Item = &'a u32>) -> String {
+    words.into_iter().map(|word| format!("{word:X}")).collect::<Vec<String>>().join("\t")
+}
+
+/// The ten words of a machine, tab-parted, without its singles.
 fn machine_columns(machine: &Machine) -> String {
-    let words: Vec<String> =
-        machine.regs.iter().chain([&machine.eip, &machine.flags]).map(|word| format!("{word:X}")).collect();
-    words.join("\t")
+    columns(machine.regs.iter().chain([&machine.eip, &machine.flags]))
 }
 
 /// Ten columns that a check or a hex file doesn't use.
 const NO_MACHINE: &str = "-\t-\t-\t-\t-\t-\t-\t-\t-\t-";
 
-/// Two columns that a check or a hex file doesn't use.
-const NO_CONSTANTS: &str = "-\t-";
+/// The columns of constants and singles, which a check or a hex file doesn't use.
+const NO_MORE: &str = "-\t-\t-\t-\t-\t-\t-\t-\t-\t-\t-\t-\t-\t-\t-\t-\t-\t-";
 
 /// Where lines go, whose results they hold (none: the partner's own), and what they cover.
 struct Lines<'a, W: Write> {
@@ -55,7 +59,7 @@ fn write_run(lines: &mut Lines<impl Write>, case: &RunCase) -> io::Result<RunCas
     }
     writeln!(
         out,
-        "run\t{}\t{:X}\t{:X}\t{}\t{:X}\t{}\t{:X}\t{:X}\t{:X}\t{}\t{:X}\t{}\t{:X}\t{}",
+        "run\t{}\t{:X}\t{:X}\t{}\t{:X}\t{}\t{:X}\t{:X}\t{:X}\t{}\t{:X}\t{}\t{:X}\t{}\t{}\t{}",
         machine_columns(&case.machine),
         case.budget,
         case.code.len(),
@@ -69,7 +73,9 @@ fn write_run(lines: &mut Lines<impl Write>, case: &RunCase) -> io::Result<RunCas
         outcome.undefined,
         sparse(&data),
         case.constants.len(),
-        sparse(&case.constants)
+        sparse(&case.constants),
+        columns(&case.machine.singles),
+        columns(&outcome.machine.singles)
     )?;
     Ok(RunCase { machine: outcome.machine, data, ..case.clone() })
 }
@@ -79,13 +85,13 @@ fn write_check(lines: &mut Lines<impl Write>, case: &CheckCase) -> io::Result<()
     let Lines { out, other, coverage } = lines;
     let mut marks = case.marks.clone();
     let mut verdict = check(&case.code, &mut marks);
-    coverage.checked(verdict.number);
+    coverage.checked(&case.code, verdict);
     if let Some(other) = other {
         (verdict, marks) = other_check(case, *other);
     }
     writeln!(
         out,
-        "check\t{NO_MACHINE}\t-\t{:X}\t{}\t{:X}\t{}\t{:X}\t-\t{:X}\t{NO_MACHINE}\t-\t{}\t{NO_CONSTANTS}",
+        "check\t{NO_MACHINE}\t-\t{:X}\t{}\t{:X}\t{}\t{:X}\t-\t{:X}\t{NO_MACHINE}\t-\t{}\t{NO_MORE}",
         case.code.len(),
         sparse(&case.code),
         case.marks.len(),
@@ -107,7 +113,7 @@ fn write_hex(lines: &mut Lines<impl Write>, case: &HexCase) -> io::Result<()> {
     }
     writeln!(
         out,
-        "hex\t{NO_MACHINE}\t-\t{:X}\t{}\t{:X}\t{}\t{:X}\t-\t{:X}\t{NO_MACHINE}\t-\t{}\t{NO_CONSTANTS}",
+        "hex\t{NO_MACHINE}\t-\t{:X}\t{}\t{:X}\t{}\t{:X}\t-\t{:X}\t{NO_MACHINE}\t-\t{}\t{NO_MORE}",
         case.text.len(),
         sparse(&case.text),
         case.area.len(),
@@ -118,7 +124,7 @@ fn write_hex(lines: &mut Lines<impl Write>, case: &HexCase) -> io::Result<()> {
     )
 }
 
-/// Whether the case's first step has a shape of the groups of M-100, M-101, M-103, M-104 and M-105 that never came.
+/// Whether the case's first step has a shape of the groups of M-100, M-101 and M-103 to M-106 that never came.
 fn adds(case: &RunCase, coverage: &Coverage) -> bool {
     let mut new = false;
     let RunCase { machine, code, constants, data, .. } = case;
@@ -159,6 +165,25 @@ fn write_missing_cases(lines: &mut Lines<impl Write>, most: u64, generator: &mut
     Ok(written)
 }
 
+/// Writes at most so many runs and checks that stop at near misses of singles that never came, until none is missing, and
+/// gives back how many.
+fn write_missing_misses(lines: &mut Lines<impl Write>, most: u64, generator: &mut Generator) -> io::Result<u64> {
+    let mut written = 0;
+    while written < most && !lines.coverage.has_all_misses() {
+        let case = generator.near_miss_run();
+        if lines.coverage.is_new_run_miss(&case) {
+            write_run(lines, &case)?;
+            written += 1;
+        }
+        let case = generator.near_miss_check();
+        if written < most && lines.coverage.is_new_check_miss(&case) {
+            write_check(lines, &case)?;
+            written += 1;
+        }
+    }
+    Ok(written)
+}
+
 /// Writes at most so many hex files with shapes that never came, until none is missing, and gives back how many.
 fn write_missing_hex(lines: &mut Lines<impl Write>, most: u64, generator: &mut Generator) -> io::Result<u64> {
     let mut written = 0;
@@ -173,9 +198,9 @@ fn write_missing_hex(lines: &mut Lines<impl Write>, most: u64, generator: &mut G
 }
 
 /// Writes the header and so many lines, first one finished step of each form, then steps for the shapes of M-100's,
-/// M-101's, M-103's, M-104's and M-105's groups still missing, then runs for M-104's, then hex files for the shapes of
-/// M-102's, then random cases, and gives back what they cover. With another program the results are its own, but for
-/// the undefined flags.
+/// M-101's, M-103's, M-104's, M-105's and M-106's groups still missing, then runs and checks for M-106's near misses, then
+/// runs for M-104's, then hex files for the shapes of M-102's, then random cases, and gives back what they cover. With
+/// another program the results are its own, but for the undefined flags.
 pub fn write_vectors(out: &mut impl Write, other: Option<&dyn Other>, seed: u64, count: u64) -> io::Result<Coverage> {
     let mut generator = Generator::new(seed, Size::Small);
     let names: Vec<String> = generator.form_names().map(str::to_string).collect();
@@ -191,6 +216,8 @@ pub fn write_vectors(out: &mut impl Write, other: Option<&dyn Other>, seed: u64,
     written += write_missing(&mut lines, count - written, Coverage::has_all_parities, || generator.single())?;
     written += write_missing(&mut lines, count - written, Coverage::has_all_accesses, || generator.at_constants())?;
     written += write_missing(&mut lines, count - written, Coverage::has_all_ends, || generator.at_ends())?;
+    written += write_missing(&mut lines, count - written, Coverage::has_all_singles, || generator.singles())?;
+    written += write_missing_misses(&mut lines, count - written, &mut generator)?;
     written += write_missing_cases(&mut lines, count - written, &mut generator)?;
     written += write_missing_hex(&mut lines, count - written, &mut generator)?;
     while written < count {

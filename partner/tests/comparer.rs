@@ -1,7 +1,7 @@
 //! The comparer finds what differs and nothing else.
 
 use partner::check::check;
-use partner::compare::{compare, Other, ANSWER_WORDS, STATE_WORDS, WRONG_AREA};
+use partner::compare::{compare, machine_in, singles, state_words, Other, ANSWER_WORDS, STATE_WORDS, WRONG_AREA};
 use partner::hex::read;
 use partner::machine::{Machine, AF};
 use partner::run::run;
@@ -21,6 +21,12 @@ enum Fault {
     Steps,
     /// Takes wrong area lengths.
     AreaLength,
+    /// Loses XMM7.
+    LastSingle,
+    /// Changes XMM0 in refused runs.
+    RefusedSingle,
+    /// Changes XMM2 in steps that stop with 5.
+    StoppedSingle,
     /// Leaves a mark at the first byte of refused code.
     Marks,
     /// Takes wrong answer lengths for hex files.
@@ -36,17 +42,18 @@ impl Other for Mirror {
         if state.len() != STATE_WORDS {
             return if self.fault == Fault::AreaLength { 0 } else { WRONG_AREA };
         }
-        let mut regs = [0; 8];
-        regs.copy_from_slice(&state[..8]);
-        let outcome = run(Machine { regs, eip: state[8], flags: state[9] }, code, constants, area, budget);
-        state[..8].copy_from_slice(&outcome.machine.regs);
-        state[8] = outcome.machine.eip;
-        state[9] = outcome.machine.flags;
+        let outcome = run(machine_in(state), code, constants, area, budget);
+        let steps = outcome.steps as u32 + u32::from(self.fault == Fault::Steps && outcome.number == 0);
+        state.copy_from_slice(&state_words(&outcome.machine, steps, outcome.address));
         if self.fault == Fault::UndefinedFlag && outcome.undefined & AF != 0 {
             state[9] |= AF;
         }
-        state[10] = outcome.steps as u32 + u32::from(self.fault == Fault::Steps && outcome.number == 0);
-        state[11] = outcome.address;
+        match self.fault {
+            Fault::LastSingle => state[17] = 0,
+            Fault::RefusedSingle if outcome.number >= 10 => state[10] ^= 1,
+            Fault::StoppedSingle if outcome.number == 5 => state[12] ^= 1,
+            _ => {}
+        }
         outcome.number
     }
 
@@ -96,6 +103,8 @@ fn agreement_is_found() {
             && coverage.has_all_parities()
             && coverage.has_all_accesses()
             && coverage.has_all_ends()
+            && coverage.has_all_singles()
+            && coverage.has_all_misses()
             && coverage.has_all_cases()
             && coverage.has_all_hex(),
         "{coverage}"
@@ -110,8 +119,34 @@ fn every_fault_is_found() {
     assert!(matches!(disagreements(Fault::UndefinedFlag), (0, 1..)));
     assert!(matches!(disagreements(Fault::Steps), (1.., 0)));
     assert!(matches!(disagreements(Fault::AreaLength), (1.., 0)));
+    assert!(matches!(disagreements(Fault::LastSingle), (1.., 0)));
+    assert!(matches!(disagreements(Fault::RefusedSingle), (1.., 0)));
+    assert!(matches!(disagreements(Fault::StoppedSingle), (1.., 0)));
     assert!(matches!(disagreements(Fault::Marks), (1.., 0)));
     assert!(matches!(disagreements(Fault::HexAnswer), (1.., 0)));
     assert!(matches!(disagreements(Fault::HexArea), (1.., 0)));
     assert!(matches!(disagreements(Fault::HexLine), (1.., 0)));
+}
+
+#[test]
+fn the_state_area_has_its_words_in_order() {
+    let machine =
+        Machine { regs: [1, 2, 3, 4, 5, 6, 7, 8], eip: 9, flags: 10, singles: [11, 12, 13, 14, 15, 16, 17, 18] };
+    let words = state_words(&machine, 19, 20);
+    assert_eq!(words.to_vec(), (1..=20).collect::<Vec<u32>>());
+    assert_eq!(machine_in(&words), machine);
+}
+
+#[test]
+fn singles_are_compared_by_themselves() {
+    let mirror = Mirror { fault: Fault::None };
+    let comparison = singles(&mirror, 3, 50_000, 2);
+    assert_eq!((comparison.defined, comparison.policy), (0, 0));
+    let counts = comparison.coverage.single_counts();
+    assert_eq!(counts[..7].iter().map(|(_, count)| count).sum::<u64>(), 50_000);
+    assert_eq!(counts[7..].iter().map(|(_, count)| count).sum::<u64>(), 50_000);
+    assert_eq!(counts[..2].iter().map(|(name, _)| name.as_str()).collect::<Vec<_>>(), ["ADDSS", "MULSS"]);
+    assert!(counts.iter().all(|(_, count)| *count > 0), "{counts:?}");
+    let lost = Mirror { fault: Fault::LastSingle };
+    assert!(singles(&lost, 3, 1_000, 2).defined > 0);
 }

@@ -9,7 +9,7 @@ use std::collections::BTreeMap;
 use carry_out::{program, steps, CarryOut};
 use common::Program;
 use partner::cases::{Case, Generator, Size};
-use partner::compare::{compare, Comparison, Other, STATE_WORDS};
+use partner::compare::{compare, machine_in, Comparison, Other, STATE_WORDS};
 use partner::decode::{Instruction, Operation, Text};
 use partner::machine::{place, FlagEffect, Machine, Width, CONSTANTS_BASE, DATA_BASE, MAX_BYTES};
 use partner::run::refusals;
@@ -185,7 +185,8 @@ fn reads_whose_end_wraps_are_found() {
     is_found(&|machine, instruction, constants, data| match execute(machine, instruction, constants, data) {
         Err(Stop::Read(read)) if read.address.checked_add(read.width.bytes()).is_none() => {
             let eip = machine.eip.wrapping_add(instruction.length);
-            Ok(Step { machine: Machine { eip, ..*machine }, flags: FlagEffect::default(), kept: None })
+            let machine = Machine { eip, ..*machine };
+            Ok(Step { machine, flags: FlagEffect::default(), kept: None, operands: None })
         }
         stepped => stepped,
     });
@@ -258,10 +259,9 @@ struct Refuser<P: Other> {
 impl<P: Other> Other for Refuser<P> {
     fn run(&self, state: &mut [u32], code: &[u8], constants: &[u8], area: &mut [u8], budget: u64) -> u32 {
         assert_eq!(state.len(), STATE_WORDS);
-        let machine = Machine { regs: [0; 8], eip: state[8], flags: state[9] };
-        let applying = refusals(&machine, code, constants, area, budget);
+        let applying = refusals(&machine_in(state), code, constants, area, budget);
         if let Some(number) = (self.refuse)(&applying, constants.len()) {
-            state[10..].fill(0);
+            state[18..].fill(0);
             return number;
         }
         self.program.run(state, code, &constants[..constants.len().min(MAX_BYTES)], area, budget)

@@ -7,7 +7,8 @@ use partner::run::run_observed;
 /// The report of runs of the code with these budgets, each going on from the last one's end.
 fn report(code: &[u8], budgets: &[u64]) -> String {
     let mut coverage = Coverage::new(std::iter::empty());
-    let mut machine = Machine { regs: [0, 3, 0, 0, 0, 0, DATA_BASE, DATA_BASE], eip: CODE_BASE, flags: ALWAYS };
+    let regs = [0, 3, 0, 0, 0, 0, DATA_BASE, DATA_BASE];
+    let mut machine = Machine { regs, eip: CODE_BASE, flags: ALWAYS, singles: [0; 8] };
     for &budget in budgets {
         let outcome = run_observed(machine, code, &[], &mut [0; 8], budget, |seen| coverage.saw(&seen));
         coverage.ran(&outcome, code);
@@ -95,7 +96,7 @@ fn places_outside_the_code_are_counted() {
     ] {
         for (eip, title) in [(place, "starts outside the code"), (CODE_BASE, "ways out of the code")] {
             let mut coverage = Coverage::new(std::iter::empty());
-            let machine = Machine { regs: [0, 0, 0, 0, 0, 0, 0, place], eip, flags: ALWAYS };
+            let machine = Machine { regs: [0, 0, 0, 0, 0, 0, 0, place], eip, flags: ALWAYS, singles: [0; 8] };
             let outcome = run_observed(machine, &[0xFF, 0xE7], &[], &mut [], 2, |seen| coverage.saw(&seen));
             coverage.ran(&outcome, &[0xFF, 0xE7]);
             let report = coverage.to_string();
@@ -109,7 +110,8 @@ fn places_outside_the_code_are_counted() {
 /// One step with these values in ECX and EDX counts this one shape of the group, whose line it looks for.
 fn counts_one(code: &[u8], (ecx, edx): (u32, u32), title: &str, shape: &str) {
     let mut coverage = Coverage::new(std::iter::empty());
-    let machine = Machine { regs: [0, ecx, edx, 0, 0, 0, DATA_BASE, 0], eip: CODE_BASE, flags: ALWAYS };
+    let regs = [0, ecx, edx, 0, 0, 0, DATA_BASE, 0];
+    let machine = Machine { regs, eip: CODE_BASE, flags: ALWAYS, singles: [0; 8] };
     let outcome = run_observed(machine, code, &[], &mut [0, 0, 0, 0, 0x80, 0, 0, 0], 1, |seen| coverage.saw(&seen));
     coverage.ran(&outcome, code);
     let report = coverage.to_string();

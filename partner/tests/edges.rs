@@ -1,4 +1,4 @@
-//! The cases of document 01's "Both sides of each edge", as document 02 (M-101, M-105) leaves them.
+//! The cases of document 01's "Both sides of each edge", as document 02 (M-101, M-105, M-106) leaves them.
 
 use partner::check::{check, Verdict};
 use partner::decode::{decode, Refusal};
@@ -6,7 +6,7 @@ use partner::machine::{Machine, CODE_BASE, DATA_BASE};
 use partner::run::{run, Outcome};
 
 /// A machine at the code's start with flags 0002h and all registers 0.
-const START: Machine = Machine { regs: [0; 8], eip: CODE_BASE, flags: 0x0002 };
+const START: Machine = Machine { regs: [0; 8], eip: CODE_BASE, flags: 0x0002, singles: [0; 8] };
 
 /// START with some registers, by number, and flags.
 fn machine(registers: &[(usize, u32)], flags: u32) -> Machine {
@@ -121,7 +121,17 @@ fn case_12_reads_at_the_data_s_end() {
 
 #[test]
 fn case_13_cut_or_no_such_instruction() {
-    for cut in [&[0x66][..], &[0x0F], &[0xF3], &[0xF2], &[0x66, 0x0F], &[0x66, 0xF3], &[0xF3, 0x66], &[0x66, 0xFF]] {
+    for cut in [
+        &[0x66][..],
+        &[0x0F],
+        &[0xF3],
+        &[0xF2],
+        &[0x66, 0x0F],
+        &[0x66, 0xF3],
+        &[0xF3, 0x66],
+        &[0x66, 0xFF],
+        &[0xF3, 0x0F],
+    ] {
         assert_eq!(decode(cut), Err(Refusal::Cut), "{cut:02X?}");
         assert_eq!(one_step(cut, START).number, 3);
     }
@@ -131,7 +141,7 @@ fn case_13_cut_or_no_such_instruction() {
         &[0xF3, 0x90],
         &[0x8D, 0xC0],
         &[0x66, 0x66],
-        &[0xF3, 0x0F],
+        &[0xF2, 0x0F],
         &[0x66, 0xFF, 0x10],
         &[0xF2, 0xF3],
         &[0xF3, 0x66, 0xA4],

@@ -21,7 +21,8 @@ fn holes(coverage: &Coverage, title: &str) -> Vec<String> {
 fn counts(title: &str, code: &[u8], ecx: u32, flags: u32, operation: &str, shapes: &[&str]) {
     let mut coverage = Coverage::new(std::iter::empty());
     let all = holes(&coverage, title);
-    let machine = Machine { regs: [7, ecx, 0, 0, 0, 0, 0, 0], eip: CODE_BASE, flags: ALWAYS | flags };
+    let regs = [7, ecx, 0, 0, 0, 0, 0, 0];
+    let machine = Machine { regs, eip: CODE_BASE, flags: ALWAYS | flags, singles: [0; 8] };
     run_observed(machine, code, &[], &mut [], 1, |seen| {
         assert!(coverage.is_new(&seen) || shapes.is_empty());
         coverage.saw(&seen);

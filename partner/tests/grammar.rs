@@ -40,6 +40,13 @@ fn has_modrm(opcode: usize) -> bool {
         || (0x190..0x1A0).contains(&opcode)
         || [0x1AF, 0x1B6, 0x1B7, 0x1BE, 0x1BF].contains(&opcode)
         || is_bit_or_conditional_move(opcode)
+        || needs_f3(opcode)
+        || opcode == 0x12F
+}
+
+/// M-106: MOVSS, ADDSS, MULSS, SUBSS, MINSS, DIVSS, MAXSS.
+fn needs_f3(opcode: usize) -> bool {
+    [0x110, 0x111, 0x158, 0x159, 0x15C, 0x15D, 0x15E, 0x15F].contains(&opcode)
 }
 
 /// M-100: CMOVcc, then bit tests, scans and double shifts.
@@ -127,7 +134,8 @@ fn length(bytes: &[u8]) -> Option<usize> {
     let allowed = words <= 1
         && repeats <= 1
         && (words == 0 || takes_66(opcode, reg))
-        && (count(&[0xF3]) == 0 || string)
+        && (count(&[0xF3]) == 0 || string || needs_f3(opcode))
+        && (count(&[0xF3]) == 1 || !needs_f3(opcode))
         && (count(&[0xF2]) == 0 || compares)
         && (!shape.modrm || takes_reg(opcode, reg))
         && !(opcode == 0x8D && modrm >= 0xC0);
@@ -194,7 +202,9 @@ fn can_go_on(bytes: &[u8]) -> bool {
 fn short_bytes_are_cut_exactly_if_some_instruction_begins_so() {
     let all = (1..=2usize).flat_map(|length| (0..1u32 << (8 * length)).map(move |value| (length, value)));
     let escaped = (0x0F_0000..0x10_0000).map(|value| (3, value));
-    for (length, value) in all.chain(escaped) {
+    let with_f3 = (0xF3_0F00..0xF3_1000).map(|value| (3, value));
+    let narrowed = [0x66_F30F, 0xF3_660F, 0x66_F20F, 0xF2_660F, 0xF3_F30F].map(|value| (3, value));
+    for (length, value) in all.chain(escaped).chain(with_f3).chain(narrowed) {
         let bytes = &value.to_be_bytes()[4 - length..];
         match decode(bytes) {
             Err(Refusal::Cut) => assert!(can_go_on(bytes), "{bytes:02X?}"),

@@ -28,7 +28,7 @@ fn machine(registers: &[(usize, u32)], flags: u32) -> Machine {
     for &(number, value) in registers {
         regs[number] = value;
     }
-    Machine { regs, eip: CODE_BASE, flags: flags | 2 }
+    Machine { regs, eip: CODE_BASE, flags: flags | 2, singles: [0; 8] }
 }
 
 /// One step with so many constants and data; a refused one leaves machine and data.

@@ -43,13 +43,13 @@ fn echo() -> Remote {
 #[test]
 fn areas_go_there_and_back() {
     let echo = echo();
-    let mut state: Vec<u32> = (0..12).map(|i| 0xFFFF_FFFC + i / 4).collect();
+    let mut state: Vec<u32> = (0..20).map(|i| 0xFFFF_FFFC_u32.wrapping_add(i / 4)).collect();
     let mut area: Vec<u8> = (0..100_000).map(|i| (i / 7) as u8).collect();
     let code: Vec<u8> = (0..65_537).map(|i| (i / 3) as u8).collect();
     let constants: Vec<u8> = (0..65_540).map(|i| (i / 5) as u8).collect();
     let number = echo.run(&mut state, &code, &constants, &mut area, (3 << 32) + 4);
     assert_eq!(number, 3 + 4 + 65_537);
-    assert_eq!(state, (0..12).map(|i| 0xFFFF_FFFD_u32.wrapping_add(i / 4)).collect::<Vec<_>>());
+    assert_eq!(state, (0..20).map(|i| 0xFFFF_FFFD_u32.wrapping_add(i / 4)).collect::<Vec<_>>());
     let mixed = |i| (i / 7) as u8 ^ ((i % 65_537) / 3) as u8 ^ ((i % 65_540) / 5) as u8;
     let expected: Vec<u8> = (0..100_000).map(mixed).collect();
     assert!(area == expected);

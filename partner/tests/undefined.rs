@@ -31,7 +31,7 @@ fn step(code: &[u8], registers: &[(usize, u32)], flags: u32, data: &mut [u8]) ->
     for &(number, value) in registers {
         regs[number] = value;
     }
-    run(Machine { regs, eip: CODE_BASE, flags }, code, &[], data, 1)
+    run(Machine { regs, eip: CODE_BASE, flags, singles: [0; 8] }, code, &[], data, 1)
 }
 
 /// From every flags word the step leaves `alone` and DF as they were, gives all other flags these values, and tells
@@ -178,7 +178,7 @@ fn a_division_that_stops_changes_nothing() {
                     let outcome = step(code, &registers, flags, &mut []);
                     let mut regs = [0; 8];
                     registers.iter().for_each(|&(number, value)| regs[number] = value);
-                    assert_eq!(outcome.machine, Machine { regs, eip: CODE_BASE, flags });
+                    assert_eq!(outcome.machine, Machine { regs, eip: CODE_BASE, flags, singles: [0; 8] });
                     assert_eq!((outcome.number, outcome.steps, outcome.undefined), (7, 0, 0), "{code:02X?}");
                 }
             }
@@ -285,7 +285,7 @@ fn blocks_that_differ_only_in_order_end_with_equal_flags() {
     let (add, sub, div) = ([0x01, 0xDB], [0x29, 0xF6], [0xF7, 0xF1]);
     let mut regs = [0; 8];
     (regs[EAX], regs[ECX], regs[EBX], regs[ESI]) = (7, 3, 0xC000_0000, 9);
-    let start = Machine { regs, eip: CODE_BASE, flags: 2 };
+    let start = Machine { regs, eip: CODE_BASE, flags: 2, singles: [0; 8] };
     let ends = [[add, sub, div], [sub, add, div]].map(|parts| run(start, &parts.concat(), &[], &mut [], 3).machine);
     assert_eq!((ends[0], ends[0].flags), (ends[1], 2));
 }

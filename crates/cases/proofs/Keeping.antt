@@ -68,6 +68,6 @@ unfolding Keeps Gives
     codeBase
     Steps.home Steps.inside Steps.committed Steps.finished Steps.performed Steps.operandAddress Steps.planned Steps.executed Steps.stepOf
     Runs.onMoved Runs.runFrom Runs.refusal Runs.opened Runs.closed Runs.taken Runs.runOf
-keeps-machine eax others word h p o =
+keeps-machine eax others singles word h p o =
     let k = kept (Registers.bitsFrom 0 8 eax) (Word.flagsOf word) (byte eax) (clear word o) in
     rw (p, k .0, k .1, packed word p, put-back eax h)

@@ -2,4 +2,5 @@
 pub mod Keeping
 pub mod Holding
 pub mod Bits
+pub mod Singles
 pub mod Constants

@@ -5,13 +5,13 @@ use Prim.Native.Nat.{ℕ, _+_}
 use Rattle.grammar.specs.Cases.{cases-M-100}
 use Rattle.blockcheck.specs.Blocks.{codeBase}
 use Rattle.run.specs.declared.Lent.{Lent}
-use Rattle.cases.specs.Lines.{Run, ends, stops, step, Case, run, bytes}
+use Rattle.cases.specs.Lines.{lent, Run, ends, stops, step, Case, run, bytes}
 use Rattle.cases.specs.Table.{at, eight}
 
 -- a machine at an offset of the code, by EAX, ESI and the flags word; the other registers are 0
 abbrev pub aimed : ℕ → ℕ → ℕ → ℕ → Lent
 aimed offset eax esi word =
-    record { regs = eax ∷ 0 ∷ 0 ∷ 0 ∷ 0 ∷ 0 ∷ esi ∷ 0 ∷ []; eip = codeBase + offset; word = word }
+    lent (eax ∷ 0 ∷ 0 ∷ 0 ∷ 0 ∷ 0 ∷ esi ∷ 0 ∷ []) (codeBase + offset) word
 
 -- one step with the eight data bytes 11h to 88h, which it leaves as they were
 abbrev pub looks : List ℕ → Lent → Lent → Run

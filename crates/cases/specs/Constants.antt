@@ -5,18 +5,18 @@ use Prim.Native.Nat.{ℕ, _+_}
 use lib.ListN.{replicate}
 use Rattle.blockcheck.specs.Blocks.{codeBase}
 use Rattle.run.specs.declared.Lent.{Lent}
-use Rattle.cases.specs.Lines.{Run, ends, stops, lending, Case, run}
+use Rattle.cases.specs.Lines.{lent, Run, ends, stops, lending, Case, run}
 use Rattle.cases.specs.Table.{pointing, eight}
 
 -- a machine at an offset of the code, by EAX, ESP and EBP; the other registers are 0, and the flags 0002h
 abbrev pub stacked : ℕ → ℕ → ℕ → ℕ → Lent
 stacked offset eax esp ebp =
-    record { regs = eax ∷ 0 ∷ 0 ∷ 0 ∷ esp ∷ ebp ∷ 0 ∷ 0 ∷ []; eip = codeBase + offset; word = 0x0002 }
+    lent (eax ∷ 0 ∷ 0 ∷ 0 ∷ esp ∷ ebp ∷ 0 ∷ 0 ∷ []) (codeBase + offset) 0x0002
 
 -- a machine at an offset of the code that has found two equal numbers, by EAX, ESI and EDI: ZF and PF are set
 abbrev pub equal : ℕ → ℕ → ℕ → ℕ → Lent
 equal offset eax esi edi =
-    record { regs = eax ∷ 0 ∷ 0 ∷ 0 ∷ 0 ∷ 0 ∷ esi ∷ edi ∷ []; eip = codeBase + offset; word = 0x0046 }
+    lent (eax ∷ 0 ∷ 0 ∷ 0 ∷ 0 ∷ 0 ∷ esi ∷ edi ∷ []) (codeBase + offset) 0x0046
 
 -- the data: AAh to DDh
 abbrev pub four : List ℕ
@@ -81,7 +81,7 @@ stacks =
     -- 58, C3 and C9 read: the last four constants, and one byte over
     ∷ run (looks (0x58 ∷ []) (stacked 0 0 0x0020_0004 0) (stacked 1 0x8877_6655 0x0020_0008 0))
     ∷ run (misses (0x58 ∷ []) (stacked 0 0 0x0020_0005 0) 5 0x0020_0008)
-    ∷ run (looks (0xC3 ∷ []) (stacked 0 0 0x0020_0004 0) (record { regs = 0 ∷ 0 ∷ 0 ∷ 0 ∷ 0x0020_0008 ∷ 0 ∷ 0 ∷ 0 ∷ []; eip = 0x8877_6655; word = 0x0002 }))
+    ∷ run (looks (0xC3 ∷ []) (stacked 0 0 0x0020_0004 0) (lent (0 ∷ 0 ∷ 0 ∷ 0 ∷ 0x0020_0008 ∷ 0 ∷ 0 ∷ 0 ∷ []) (0x8877_6655) 0x0002))
     ∷ run (misses (0xC3 ∷ []) (stacked 0 0 0x0020_0005 0) 5 0x0020_0008)
     ∷ run (looks (0xC9 ∷ []) (stacked 0 0 0 0x0020_0000) (stacked 1 0 0x0020_0004 0x4433_2211))
     ∷ run (misses (0xC9 ∷ []) (stacked 0 0 0 0x0020_0005) 5 0x0020_0008)
@@ -114,7 +114,7 @@ refuses code given area budget number = stops code given area budget given area 
 
 -- a machine at the code's start whose flags word has a bit that is no flag
 abbrev pub unflagged : Lent
-unflagged = record { regs = replicate 8 0; eip = codeBase; word = 0x0000 }
+unflagged = lent (replicate 8 0) codeBase 0x0000
 
 -- constants of 65,536 and 65,537 bytes
 unfoldable pub lengths : List Case

@@ -2,5 +2,6 @@
 pub mod Lines
 pub mod Table
 pub mod Bits
+pub mod Singles
 pub mod Constants
 pub mod Outside

@@ -3,9 +3,10 @@ use mathlib.Core.Path.{_≡_}
 use mathlib.Core.Bool.{true, false}
 use mathlib.Core.List.{List, [], _∷_}
 use Prim.Native.Nat.{ℕ, _+_, _^_, _<_}
-use lib.ListN.{length}
+use lib.ListN.{length, replicate}
 use Rattle.width.specs.Numbers.{bitAt}
 use Rattle.flags.specs.Word.{passes}
+use Rattle.scalar.specs.declared.Xmm.{Xmm}
 use Rattle.grammar.specs.Cases as Bytes
 use Rattle.blockcheck.specs.Blocks.{codeBase}
 use Rattle.blockcheck.specs.Cases as Blocks
@@ -13,6 +14,17 @@ use Rattle.run.specs.declared.Lent.{Lent}
 use Rattle.run.specs.declared.Ran.{Ran}
 use Rattle.run.specs.Steps.{fixedTo}
 use Rattle.run.specs.Runs.{runOf}
+
+-- a single by its bits, and eight that are 0
+abbrev pub xmm : ℕ → Xmm
+xmm n = record { bits = n }
+
+abbrev pub zeros : List Xmm
+zeros = replicate 8 (xmm 0)
+
+-- the machine that a run is lent, by its registers, EIP and the flags word; its singles are 0
+abbrev pub lent : List ℕ → ℕ → ℕ → Lent
+lent regs eip word = record { regs = regs; xmm = zeros; eip = eip; word = word }
 
 -- a run: what it is given, the machine, steps, number and address that it gives back, and the data that it leaves
 pub record Run : Type 0 where
@@ -75,16 +87,16 @@ step code given after = ends code given [] 1 after []
 abbrev pub fault : List ℕ → Lent → Run
 fault code given = stops code given [] 1 given [] 0 7 (given .eip)
 
--- the code's first step changes only EIP, whatever the registers and the flags are, where OF is clear
+-- the code's first step changes only EIP, whatever the registers, the singles and the flags are, where OF is clear
 unfoldable pub Keeps : List ℕ → Type 0
 Keeps code =
-    (eax : ℕ) (others : List ℕ) (word : ℕ)
+    (eax : ℕ) (others : List ℕ) (singles : List Xmm) (word : ℕ)
     → eax < 2 ^ 32
     → passes word ≡ true
     → bitAt 11 word ≡ false
     → Gives
-    (step code (record { regs = eax ∷ others; eip = codeBase; word = word })
-    (record { regs = eax ∷ others; eip = codeBase + length code; word = word }))
+    (step code (record { regs = eax ∷ others; xmm = singles; eip = codeBase; word = word })
+    (record { regs = eax ∷ others; xmm = singles; eip = codeBase + length code; word = word }))
 
 -- a line: a run, code that with OF clear changes only EIP, what some bytes are, or what the block check answers
 pub data Case : Type 0 where

@@ -7,17 +7,17 @@ use Rattle.grammar.specs.Cases.{case13}
 use Rattle.blockcheck.specs.Blocks.{codeBase}
 use Rattle.blockcheck.specs.Cases.{case-14}
 use Rattle.run.specs.declared.Lent.{Lent}
-use Rattle.cases.specs.Lines.{ends, stops, step, fault, Case, run, keeps, bytes, block}
+use Rattle.cases.specs.Lines.{lent, ends, stops, step, fault, Case, run, keeps, bytes, block}
 
 -- a machine at an offset of the code, by EAX, ECX, EDX and the flags word; the other registers are 0
 abbrev pub at : ℕ → ℕ → ℕ → ℕ → ℕ → Lent
 at offset eax ecx edx word =
-    record { regs = eax ∷ ecx ∷ edx ∷ 0 ∷ 0 ∷ 0 ∷ 0 ∷ 0 ∷ []; eip = codeBase + offset; word = word }
+    lent (eax ∷ ecx ∷ edx ∷ 0 ∷ 0 ∷ 0 ∷ 0 ∷ 0 ∷ []) (codeBase + offset) word
 
 -- a machine at an offset of the code, by EAX, ECX, ESI and EDI; the other registers are 0, and the flags 0002h
 abbrev pub pointing : ℕ → ℕ → ℕ → ℕ → ℕ → Lent
 pointing offset eax ecx esi edi =
-    record { regs = eax ∷ ecx ∷ 0 ∷ 0 ∷ 0 ∷ 0 ∷ esi ∷ edi ∷ []; eip = codeBase + offset; word = 0x0002 }
+    lent (eax ∷ ecx ∷ 0 ∷ 0 ∷ 0 ∷ 0 ∷ esi ∷ edi ∷ []) (codeBase + offset) 0x0002
 
 -- F3 A5
 abbrev pub moves : List ℕ

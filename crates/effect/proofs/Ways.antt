@@ -15,17 +15,19 @@ use Rattle.sense.specs.declared.Move.{Move}
 use Rattle.sense.specs.declared.Stack.{Stack}
 use Rattle.sense.specs.declared.Branch.{Branch}
 use Rattle.sense.specs.declared.Strings.{Strings}
+use Rattle.sense.specs.declared.Singles.{Singles}
 use Rattle.sense.specs.declared.Operation.{Operation}
 use Rattle.plan.specs.declared.Operand.{Operand}
 use Rattle.plan.specs.declared.Operand.the-variants.{Register, Memory, Number}
 use Rattle.plan.specs.declared.Plan.{Plan}
 use Rattle.effect.specs.Outcomes.{Effect, Computed}
-use Rattle.effect.specs.Words.{becomes, writes, faults, onward, assign, assigned}
+use Rattle.effect.specs.Words.{becomes, writes, sets, faults, onward, assign, assigned}
 use Rattle.effect.specs.Arithmetic.{settled, doubled, multiplied, multipliedSigned, quotient, divided, dividedSigned, arithmeticEffect}
 use Rattle.effect.specs.Moves.{exchanged, moveEffect, flaggingEffect}
 use Rattle.effect.specs.Stacks.{pushed, stackEffect}
 use Rattle.effect.specs.Branches.{branched, looped, branchEffect}
 use Rattle.effect.specs.Strings.{over, repeated, withMachine, idle, rounded, stringEffect}
+use Rattle.effect.specs.Singles.{assignSingle, singleEffect}
 use Rattle.effect.specs.All.{effectBy}
 use Rattle.effect.specs.Ways.{indirectStack, indirectBranch, indirect}
 use Rattle.effect.proofs.Choosing.{chosen}
@@ -89,6 +91,11 @@ module _ {m : Machine} {a : ℕ} {after : Machine} (h : At m a after) where
   unfolding writes
   of-writes w b v = h
 
+  -- so has an effect that puts a single
+  of-sets : (i v : ℕ) → At m a ((sets after i v) .machine)
+  unfolding sets
+  of-sets i v = h
+
   -- an effect with another machine has the other's
   of-machine : (e : Effect) → At m a ((withMachine e after) .machine)
   unfolding withMachine
@@ -106,6 +113,13 @@ module _ {m : Machine} {a : ℕ} {after : Machine} (h : At m a after) where
   of-assign (Register i) b w v = of-becomes (part-set h w i v)
   of-assign Memory b w v = of-writes h w b v
   of-assign (Number n) b w v = of-becomes h
+
+  -- so has one that assigns a single
+  of-single : (o : Operand) (b v : ℕ) → At m a ((assignSingle o b after v) .machine)
+  unfolding assignSingle
+  of-single (Register i) b v = of-sets h i v
+  of-single Memory b v = of-writes h _ b v
+  of-single (Number n) b v = of-becomes h
 
   -- so has one that pushes a number
   of-pushed : (v : ℕ) → At m a ((pushed after v) .machine)
@@ -236,6 +250,13 @@ string-course op m p r s =
     chosen (Course m p false) (idle (p .repeat) m) (falling (of-becomes (on m p)))
     (rounded-course m p _ (record { place = kept .place; many = kept .many }) (p .repeat) op)
 
+-- an operation on singles falls
+single-course : (op : Singles) (m : Machine) (p : Plan) (a r : ℕ) → Course m p false (singleEffect op m p a r)
+unfolding singleEffect
+single-course Singles.Move m p a r = falling (of-single (on m p) _ a _)
+single-course (Singles.Compute op) m p a r = falling (of-single (on m p) _ a _)
+single-course Singles.Compare m p a r = falling (of-becomes (flags-set (on m p) _))
+
 -- every operation has one of the ways, unless it is indirect, and keeps the number of registers
 course : (op : Operation) (m : Machine) (p : Plan) (a r s : ℕ) → Course m p (indirect op) (effectBy op m p a r s)
 unfolding indirect effectBy flaggingEffect
@@ -245,6 +266,7 @@ course (Operation.Flagging op) m p a r s = falling (of-becomes (flags-set (on m 
 course (Operation.Stack op) m p a r s = stack-course op m p a r
 course (Operation.Branch op) m p a r s = branch-course op m p r
 course (Operation.Strings op) m p a r s = string-course op m p r s
+course (Operation.Singles op) m p a r s = single-course op m p a r
 
 -- EIP stays, falls to the next instruction or leads to the target, but for each return and each jump or call through a register or memory
 pub way : (op : Operation) (m : Machine) (p : Plan) (a r s : ℕ) → indirect op ≡ false → Way m p (effectBy op m p a r s)

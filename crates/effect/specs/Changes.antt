@@ -3,14 +3,22 @@ use mathlib.Core.Path.{_≡_}
 use mathlib.Core.List.{List}
 use Prim.Native.Nat.{ℕ}
 use Rattle.flags.specs.Word.{flagsOf}
+use Rattle.scalar.specs.declared.Xmm.{Xmm}
 use Rattle.machine.specs.declared.registers.Machine.{Machine}
 use Rattle.machine.specs.declared.registers.Change.{Change}
-use Rattle.machine.specs.Lending.{holding, changed}
+use Rattle.machine.specs.Lending.{machineOf, holding, xmmOf, changed}
+use Rattle.machine.specs.Registers.{withXmm, withBits}
 use Rattle.effect.specs.declared.arithmetic.Reckoned.{Reckoned}
+use Rattle.effect.specs.declared.outcome.Outcome.{Outcome}
+use Rattle.effect.specs.declared.outcome.Outcome.the-variants.{Becomes, Writes, Sets, Faults}
 use Rattle.effect.specs.declared.outcome.Changes.{Changes}
 use Rattle.effect.specs.Outcomes.{Effect, Computed}
 
--- the machine of lent registers, EIP and the flags word
+-- the machine of lent registers and XMM registers, EIP and the flags word
+abbrev pub lent : List ℕ → List ℕ → ℕ → ℕ → Machine
+lent regs xmm eip word = machineOf regs (xmmOf xmm) eip (flagsOf word)
+
+-- the same without singles, for what neither looks at them nor changes them
 abbrev pub held : List ℕ → ℕ → ℕ → Machine
 held regs eip word = holding regs eip (flagsOf word)
 
@@ -32,6 +40,28 @@ applied c regs =
       address = c .address;
       value = c .value;
     }
+
+-- an effect of the machine with these singles
+unfoldable pub framed : List Xmm → Effect → Effect
+framed xmm e =
+    record {
+      outcome = e .outcome;
+      machine = withXmm (e .machine) xmm;
+      size = e .size;
+      address = e .address;
+      value = e .value;
+    }
+
+-- the singles after changes with this outcome
+unfoldable pub singlesBy : Outcome → Changes → List Xmm → List Xmm
+singlesBy Becomes c xmm = xmm
+singlesBy Writes c xmm = xmm
+singlesBy Sets c xmm = withBits xmm (c .address) (c .value)
+singlesBy Faults c xmm = xmm
+
+-- the machine with the changes made on these registers and XMM registers
+abbrev pub madeOf : Changes → List ℕ → List Xmm → Machine
+madeOf c regs xmm = machineOf (registersAfter c regs) (singlesBy (c .outcome) c xmm) (c .next) (flagsOf (c .word))
 
 -- the changes are what an effect does to the machine of these registers and flags, wherever it is
 abbrev pub Changing : List ℕ → ℕ → (Machine → Effect) → Changes → Type 0

@@ -8,5 +8,6 @@ pub mod Moves
 pub mod Stacks
 pub mod Branches
 pub mod Strings
+pub mod Singles
 pub mod All
 pub mod Ways

@@ -31,3 +31,4 @@ indirect (Operation.Flagging op) = false
 indirect (Operation.Stack op) = indirectStack op
 indirect (Operation.Branch op) = indirectBranch op
 indirect (Operation.Strings op) = false
+indirect (Operation.Singles op) = false

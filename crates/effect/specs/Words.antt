@@ -1,13 +1,13 @@
 -- The words that effects are written in: an operand's value, assigning, reading. Assumes nothing.
 use Prim.Native.Nat.{ℕ}
 use Rattle.width.specs.declared.Size.{Size}
-use Rattle.width.specs.declared.Size.the-variants.{Byte}
+use Rattle.width.specs.declared.Size.the-variants.{Byte, Dword}
 use Rattle.machine.specs.declared.registers.Machine.{Machine}
 use Rattle.machine.specs.Registers.{part, withPart, withEip}
 use Rattle.plan.specs.declared.Operand.{Operand}
 use Rattle.plan.specs.declared.Operand.the-variants.{Register, Memory, Number}
 use Rattle.plan.specs.declared.Plan.{Plan}
-use Rattle.effect.specs.declared.outcome.Outcome.the-variants.{Becomes, Writes, Faults}
+use Rattle.effect.specs.declared.outcome.Outcome.the-variants.{Becomes, Writes, Sets, Faults}
 use Rattle.effect.specs.Outcomes.{Effect}
 use Rattle.effect.specs.declared.outcome.Reads.{Reads}
 use Rattle.effect.specs.declared.outcome.Reads.the-variants.{Nothing, One}
@@ -19,6 +19,10 @@ becomes m = record { outcome = Becomes; machine = m; size = Byte; address = 0; v
 -- the next machine, and v written at an address
 unfoldable pub writes : Machine → Size → ℕ → ℕ → Effect
 writes m w a v = record { outcome = Writes; machine = m; size = w; address = a; value = v }
+
+-- the next machine, and the bits v put into an XMM register
+unfoldable pub sets : Machine → ℕ → ℕ → Effect
+sets m i v = record { outcome = Sets; machine = m; size = Dword; address = i; value = v }
 
 -- a divide error
 unfoldable pub faults : Machine → Effect

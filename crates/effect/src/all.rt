@@ -11,13 +11,15 @@ use crate::outcome::Changes;
 use crate::outcome::Reads;
 use crate::rounds::string_effect;
 use crate::rounds::string_reads;
+use crate::singles::single_effect;
+use crate::singles::single_reads;
 use crate::stacks::stack_effect;
 use crate::stacks::stack_reads;
 use plan::Plan;
 use sense::Operation;
 ghost use mathlib.Core.Path.{_≡_};
-ghost use Rattle.machine.specs.Lending.{Gives};
-ghost use Rattle.effect.specs.Changes.{held, applied};
+ghost use Rattle.machine.specs.Lending.{xmmOf, Gives};
+ghost use Rattle.effect.specs.Changes.{lent, framed, applied};
 ghost use Rattle.effect.specs.All.{addressBy, readsBy, effectBy};
 
 // Where its operand in memory is, where a is the effective address.
@@ -31,6 +33,7 @@ pub fn address_by(operation: Operation, regs: &[u32; 8], p: Plan, a: u32) -> u32
         Operation::Stack(_) => a,
         Operation::Branch(_) => a,
         Operation::Strings(_) => a,
+        Operation::Singles(_) => a,
     }
 }
 
@@ -45,6 +48,7 @@ pub fn reads_by(operation: Operation, regs: &[u32; 8], p: Plan, a: u32) -> Reads
         Operation::Stack(op) => stack_reads(op, regs, p, a),
         Operation::Branch(op) => branch_reads(op, p, a),
         Operation::Strings(op) => string_reads(op, regs, p),
+        Operation::Singles(_) => single_reads(p, a),
     }
 }
 
@@ -52,6 +56,7 @@ pub fn reads_by(operation: Operation, regs: &[u32; 8], p: Plan, a: u32) -> Reads
 pub fn effect_by(
     operation: Operation,
     regs: &[u32; 8],
+    xmm: &[u32; 8],
     eip: u32,
     word: u32,
     p: Plan,
@@ -59,7 +64,7 @@ pub fn effect_by(
     r: u32,
     s: u32,
 ) -> Changes
-    ensures { λ c. ⌜ effectBy operation (held (now (regs .entry)) eip word) p a r s ≡ applied c (now (regs .entry)) ⌝ }
+    ensures { λ c. ⌜ effectBy operation (lent (now (regs .entry)) (now (xmm .entry)) eip word) p a r s ≡ framed (xmmOf (now (xmm .entry))) (applied c (now (regs .entry))) ⌝ }
 {
     match operation {
         Operation::Arithmetic(op) => arithmetic_effect(op, regs, eip, word, p, a, r),
@@ -68,5 +73,6 @@ pub fn effect_by(
         Operation::Stack(op) => stack_effect(op, regs, word, p, a, r),
         Operation::Branch(op) => branch_effect(op, regs, word, p, r),
         Operation::Strings(op) => string_effect(op, regs, eip, word, p, r, s),
+        Operation::Singles(op) => single_effect(op, xmm, word, p, a, r),
     }
 }

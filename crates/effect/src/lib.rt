@@ -6,5 +6,6 @@ mod branches;
 mod moves;
 pub mod outcome;
 mod rounds;
+mod singles;
 mod stacks;
 mod words;

@@ -2,18 +2,22 @@
 use machine::registers::Change;
 use machine::registers::Machine;
 use machine::registers::put;
+use machine::registers::put_single;
 use width::Size;
 ghost use mathlib.Core.Path.{_≡_};
-ghost use Rattle.effect.specs.Changes.{registersAfter, applied};
+ghost use Rattle.flags.specs.Word.{flagsOf};
+ghost use Rattle.machine.specs.Lending.{machineOf, xmmOf};
+ghost use Rattle.effect.specs.Changes.{registersAfter, singlesBy, madeOf};
 
-// The machine changes and nothing is written, or something is, or a divide error.
+// The machine changes and nothing is written, or something is, or a single is put into the XMM register with the number `address`, or a divide error.
 pub enum Outcome {
     Becomes,
     Writes,
+    Sets,
     Faults,
 }
 
-// What changes: EIP, the flags word, registers, one after the other, and the write, where there is one.
+// What changes: EIP, the flags word, registers, one after the other, and the write or the single, where there is one.
 pub struct Changes {
     pub outcome: Outcome,
     pub size: Size,
@@ -45,9 +49,24 @@ pub fn make(regs: &mut [u32; 8], c: Changes)
     put(regs, third);
 }
 
-// The machine with the changes made.
-pub fn after(m: Machine, c: Changes) -> Machine
-    ensures { λ r. ⌜ r ≡ (applied c (m .regs)) .machine ⌝ }
+// The single that is put, in place.
+pub fn make_single(xmm: &mut [u32; 8], c: Changes)
+    ensures { λ _. ⌜ xmmOf (now (xmm .exit)) ≡ singlesBy (c .outcome) c (xmmOf (now (xmm .entry))) ⌝ }
+{
+    let outcome = c.outcome;
+    match outcome {
+        Outcome::Becomes => {}
+        Outcome::Writes => {}
+        Outcome::Sets => {
+            put_single(xmm, c.address, c.value);
+        }
+        Outcome::Faults => {}
+    }
+}
+
+// The machine with the changes made, but for a single.
+fn moved(m: Machine, c: Changes) -> Machine
+    ensures { λ r. ⌜ r ≡ machineOf (registersAfter c (m .regs)) (m .xmm) (c .next) (flagsOf (c .word)) ⌝ }
 {
     let first = c.first;
     let second = c.second;
@@ -57,4 +76,17 @@ pub fn after(m: Machine, c: Changes) -> Machine
         .with_change(third)
         .with_eip(c.next)
         .with_flags(flags::unpack(c.word))
+}
+
+// The machine with the changes made.
+pub fn after(m: Machine, c: Changes) -> Machine
+    ensures { λ r. ⌜ r ≡ madeOf c (m .regs) (m .xmm) ⌝ }
+{
+    let outcome = c.outcome;
+    match outcome {
+        Outcome::Becomes => moved(m, c),
+        Outcome::Writes => moved(m, c),
+        Outcome::Sets => moved(m, c).with_single(c.address, c.value),
+        Outcome::Faults => moved(m, c),
+    }
 }

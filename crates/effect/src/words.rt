@@ -77,6 +77,23 @@ pub fn writes(
     }
 }
 
+// EIP changes, and the bits v are put into an XMM register.
+pub fn sets(next: u32, word: u32, i: u32, v: u32) -> Changes
+    ensures { λ r. ⌜ Comes (λ regs. W.sets (held regs next word) i v) r ⌝ }
+{
+    Changes {
+        outcome: Outcome::Sets,
+        size: Size::Dword,
+        address: i,
+        value: v,
+        next,
+        word,
+        first: none(),
+        second: none(),
+        third: none(),
+    }
+}
+
 // A divide error: nothing changes.
 pub fn faults(eip: u32, word: u32) -> Changes
     ensures { λ r. ⌜ ((regs : List ℕ) → applied r regs ≡ W.faults (held regs eip word)) ⌝ }

@@ -24,7 +24,7 @@ no-row k none = sym (says-other rows 255 k (not-listed rows k none .1))
 
 -- how many rows there are
 abbrev pub rowCount : ℕ
-rowCount = 94
+rowCount = 98
 
 -- each line says less than n
 unfoldable under : List (Line ℕ) → ℕ → Bool

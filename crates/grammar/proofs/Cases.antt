@@ -1,4 +1,4 @@
--- Document 01's case 13 and the cases of M-100 hold of the grammar: one test that antt computes over the table of their bytes.
+-- Document 01's case 13 and the cases of M-100 and M-106 hold of the grammar: one test that antt computes over the table of their bytes.
 -- Assumes nothing.
 use mathlib.Core.Path.{_≡_, refl}
 use mathlib.Core.Bool.{Bool, true, false}
@@ -14,7 +14,7 @@ use Rattle.width.specs.LittleEndian.{littleEndian}
 use Rattle.grammar.specs.Answers.{displaced}
 use Rattle.grammar.specs.Reading.{run, bytesThen}
 use Rattle.grammar.specs.Decoding.{tailTree, addressTree, modrmTree, operandTree, accepts, entryTree, opcodeTree, some, acceptsEntry, escapes, escapeTree, firstTree, sizeTree, repeatTree, tree, answer, found, decodeOf}
-use Rattle.grammar.specs.Cases.{Saying, cut, unknown, one, BytesCase, Holds, All, case13, cases-M-100}
+use Rattle.grammar.specs.Cases.{Saying, cut, unknown, one, BytesCase, Holds, All, case13, cases-M-100, cases-M-106}
 use Rattle.grammar.specs.declared.instruction.Found.{Found}
 use Rattle.grammar.proofs.Below.{both-left, both-right}
 use Rattle.grammar.proofs.Answered.{decode-answers, found-standing}
@@ -60,14 +60,18 @@ tested (c ∷ cs) t =
     (holds (c .says) (c .bytes) (decodeOf (c .bytes) 0) refl (both-left first (test cs) t), tested cs (both-right first (test cs) t))
 
 -- the tables agree
-passes : T (both (test case13) (test cases-M-100))
-unfolding test case13 cases-M-100 agrees decodeOf found answer run tree sizeTree repeatTree firstTree escapeTree escapes acceptsEntry some opcodeTree entryTree accepts operandTree modrmTree addressTree tailTree bytesThen sibLength bareLength littleEndian displaced ruleOf
+passes : T (both (test case13) (both (test cases-M-100) (test cases-M-106)))
+unfolding test case13 cases-M-100 cases-M-106 agrees decodeOf found answer run tree sizeTree repeatTree firstTree escapeTree escapes acceptsEntry some opcodeTree entryTree accepts operandTree modrmTree addressTree tailTree bytesThen sibLength bareLength littleEndian displaced ruleOf
 passes = tt
 
 -- case 13
 pub case13-holds : All case13
-case13-holds = tested case13 (both-left (test case13) (test cases-M-100) passes)
+case13-holds = tested case13 (both-left (test case13) _ passes)
 
--- and M-100's
+-- M-100's
 pub cases-M-100-hold : All cases-M-100
-cases-M-100-hold = tested cases-M-100 (both-right (test case13) (test cases-M-100) passes)
+cases-M-100-hold = tested cases-M-100 (both-left (test cases-M-100) (test cases-M-106) (both-right (test case13) _ passes))
+
+-- and M-106's
+pub cases-M-106-hold : All cases-M-106
+cases-M-106-hold = tested cases-M-106 (both-right (test cases-M-100) (test cases-M-106) (both-right (test case13) _ passes))

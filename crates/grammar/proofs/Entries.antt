@@ -8,7 +8,7 @@ use native.Mathlib.Omega.{arith}
 use lib.Dec.{T, leb, ltb, ltb→lt}
 use borrow.Author.Tests.{leb-true, lt-leb}
 use Rattle.grammar.specs.Choice.{pick, both, either}
-use Rattle.grammar.specs.Opcodes.{Line, Form, unlisted, listed, lists, forms, with66, withF2, withF3, repeatsOf, entryOf, ruleOf}
+use Rattle.grammar.specs.Opcodes.{Line, Form, unlisted, listed, lists, forms, with66, withF2, withF3, asksF3, repeatsOf, entryOf, ruleOf}
 use Rattle.grammar.specs.declared.rule.Prefix66.{Prefix66}
 use Rattle.grammar.specs.declared.rule.Rule.{Rule}
 use Rattle.grammar.specs.declared.rule.Entry.{Entry}
@@ -29,7 +29,7 @@ says-other (l ∷ ls) other k none = by (both (leb (l .first) k) (leb k (l .last
 pub without-rule : (k : ℕ) → lists forms k ≡ false → ruleOf k ≡ Entry.Unlisted
 unfolding ruleOf
 without-rule k none =
-    ap (λ (f : Form). entryOf f (listed with66 Prefix66.Refused k) (repeatsOf (listed withF2 false k) (listed withF3 false k)))
+    ap (λ (f : Form). entryOf f (listed with66 Prefix66.Refused k) (repeatsOf (listed asksF3 false k) (listed withF2 false k) (listed withF3 false k)))
     (says-other forms unlisted k none)
 
 -- so the lists name each opcode that has one

@@ -1,4 +1,4 @@
--- Document 01's case 13 and cases of M-100: what some bytes are, by the grammar.
+-- Document 01's case 13 and cases of M-100 and M-106: what some bytes are, by the grammar.
 -- Assumes nothing.
 use mathlib.Core.List.{List, [], _∷_}
 use Prim.Native.Nat.{ℕ}
@@ -61,4 +61,29 @@ cases-M-100 =
     ∷ case (0xF3 ∷ 0x0F ∷ 0xBC ∷ 0xC0 ∷ []) unknown
     ∷ case (0x0F ∷ 0x4F ∷ 0xC0 ∷ []) one
     ∷ case (0x0F ∷ 0x50 ∷ 0xC0 ∷ []) unknown
+    ∷ []
+
+-- M-106: all but 0F 2F ask for F3, so F3 0F goes on, and no other opcode after 0F takes F3; 66 and F2 are not allowed; F3 0F 5A and 51 are none
+unfoldable pub cases-M-106 : List BytesCase
+cases-M-106 =
+    case (0xF3 ∷ 0x0F ∷ []) cut
+    ∷ case (0xF3 ∷ 0x0F ∷ 0x58 ∷ []) cut
+    ∷ case (0xF3 ∷ 0x0F ∷ 0x58 ∷ 0xC1 ∷ []) one
+    ∷ case (0xF3 ∷ 0x0F ∷ 0x10 ∷ 0x05 ∷ 0x00 ∷ 0x00 ∷ 0x10 ∷ 0x00 ∷ []) one
+    ∷ case (0x0F ∷ 0x58 ∷ 0xC1 ∷ []) unknown
+    ∷ case (0x0F ∷ 0x10 ∷ 0xC1 ∷ []) unknown
+    ∷ case (0xF2 ∷ 0x0F ∷ 0x58 ∷ 0xC1 ∷ []) unknown
+    ∷ case (0x66 ∷ 0xF3 ∷ 0x0F ∷ 0x58 ∷ 0xC1 ∷ []) unknown
+    ∷ case (0xF3 ∷ 0x66 ∷ 0x0F ∷ 0x58 ∷ 0xC1 ∷ []) unknown
+    ∷ case (0x66 ∷ 0x0F ∷ 0x2F ∷ 0xC1 ∷ []) unknown
+    ∷ case (0xF3 ∷ 0x0F ∷ 0x2F ∷ 0xC1 ∷ []) unknown
+    ∷ case (0x0F ∷ 0x2F ∷ 0xC1 ∷ []) one
+    ∷ case (0x0F ∷ 0x2F ∷ []) cut
+    ∷ case (0xF3 ∷ 0x0F ∷ 0xAF ∷ 0xC1 ∷ []) unknown
+    ∷ case (0xF3 ∷ 0x0F ∷ 0x5A ∷ 0xC1 ∷ []) unknown
+    ∷ case (0xF3 ∷ 0x0F ∷ 0x51 ∷ 0xC1 ∷ []) unknown
+    ∷ case (0x66 ∷ 0xF3 ∷ 0x0F ∷ []) unknown
+    ∷ case (0xF3 ∷ 0x66 ∷ 0x0F ∷ []) unknown
+    ∷ case (0xF2 ∷ 0x0F ∷ []) unknown
+    ∷ case (0xF3 ∷ 0x90 ∷ []) unknown
     ∷ []

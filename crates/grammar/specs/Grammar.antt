@@ -180,15 +180,21 @@ allows66 Prefix66.Only01 narrow field = either (not narrow) (leb field 1)
 
 -- whether F2, F3 or their absence is allowed before an opcode
 abbrev pub allowsRepeat : PrefixRepeat → Repeat → Bool
-allowsRepeat r Repeat.Absent = true
+allowsRepeat PrefixRepeat.Refused Repeat.Absent = true
+allowsRepeat PrefixRepeat.F2 Repeat.Absent = true
+allowsRepeat PrefixRepeat.F3 Repeat.Absent = true
+allowsRepeat PrefixRepeat.Either Repeat.Absent = true
+allowsRepeat PrefixRepeat.F3Asked Repeat.Absent = false
 allowsRepeat PrefixRepeat.Refused Repeat.F2 = false
 allowsRepeat PrefixRepeat.F2 Repeat.F2 = true
 allowsRepeat PrefixRepeat.F3 Repeat.F2 = false
 allowsRepeat PrefixRepeat.Either Repeat.F2 = true
+allowsRepeat PrefixRepeat.F3Asked Repeat.F2 = false
 allowsRepeat PrefixRepeat.Refused Repeat.F3 = false
 allowsRepeat PrefixRepeat.F2 Repeat.F3 = false
 allowsRepeat PrefixRepeat.F3 Repeat.F3 = true
 allowsRepeat PrefixRepeat.Either Repeat.F3 = true
+allowsRepeat PrefixRepeat.F3Asked Repeat.F3 = true
 
 -- the parts of an instruction, in their order
 pub record Parts : Type 0 where

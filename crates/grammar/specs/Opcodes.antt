@@ -92,6 +92,10 @@ forms =
     ∷ at 0x1A3 (modrm Any) ∷ at 0x1AB (modrm Any) ∷ at 0x1B3 (modrm Any) ∷ at 0x1BB (modrm Any) ∷ at 0x1BA (form Only4567 Imm8)
     ∷ at 0x1BC (modrm Any) ∷ at 0x1BD (modrm Any)
     ∷ at 0x1A4 (form Any Imm8) ∷ at 0x1A5 (modrm Any) ∷ at 0x1AC (form Any Imm8) ∷ at 0x1AD (modrm Any)
+    -- M-106: F3 0F 10, 11; F3 0F 58, 59, 5C-5F; 0F 2F: all with ModR/M
+    ∷ at 0x110 (modrm Any) ∷ at 0x111 (modrm Any)
+    ∷ at 0x158 (modrm Any) ∷ at 0x159 (modrm Any) ∷ from 0x15C 0x15F (modrm Any)
+    ∷ at 0x12F (modrm Any)
     ∷ []
 
 -- ALU forms 1, 3, 5
@@ -118,7 +122,7 @@ with66 =
     ∷ at 0x1A4 Allowed ∷ at 0x1A5 Allowed ∷ at 0x1AC Allowed ∷ at 0x1AD Allowed
     ∷ []
 
--- F3 only before these
+-- F3 only before these, and before those that ask for it
 unfoldable pub withF3 : List (Line Bool)
 withF3 = from 0xA4 0xA7 true ∷ from 0xAA 0xAF true ∷ []
 
@@ -126,12 +130,17 @@ withF3 = from 0xA4 0xA7 true ∷ from 0xAA 0xAF true ∷ []
 unfoldable pub withF2 : List (Line Bool)
 withF2 = at 0xA6 true ∷ at 0xA7 true ∷ at 0xAE true ∷ at 0xAF true ∷ []
 
--- by whether F2 and whether F3 is allowed
-unfoldable pub repeatsOf : Bool → Bool → PrefixRepeat
-repeatsOf false false = PrefixRepeat.Refused
-repeatsOf true false = PrefixRepeat.F2
-repeatsOf false true = PrefixRepeat.F3
-repeatsOf true true = PrefixRepeat.Either
+-- M-106: F3 has to stand before these
+unfoldable pub asksF3 : List (Line Bool)
+asksF3 = at 0x110 true ∷ at 0x111 true ∷ at 0x158 true ∷ at 0x159 true ∷ from 0x15C 0x15F true ∷ []
+
+-- by whether F3 is asked for, and else by whether F2 and whether F3 is allowed
+unfoldable pub repeatsOf : Bool → Bool → Bool → PrefixRepeat
+repeatsOf true f2 f3 = PrefixRepeat.F3Asked
+repeatsOf false false false = PrefixRepeat.Refused
+repeatsOf false true false = PrefixRepeat.F2
+repeatsOf false false true = PrefixRepeat.F3
+repeatsOf false true true = PrefixRepeat.Either
 
 -- an opcode's form and the prefixes that it takes
 unfoldable pub entryOf : Form → Prefix66 → PrefixRepeat → Entry
@@ -140,7 +149,7 @@ entryOf (form m i) s r = Entry.Listed (record { modrm = m; immediate = i; size =
 
 -- the rule of an opcode: all that the lists say of it
 unfoldable pub ruleOf : ℕ → Entry
-unfolding listed forms with66 withF2 withF3 repeatsOf entryOf pick
+unfolding listed forms with66 withF2 withF3 asksF3 repeatsOf entryOf pick
 ruleOf k =
     entryOf (listed forms unlisted k) (listed with66 Prefix66.Refused k)
-    (repeatsOf (listed withF2 false k) (listed withF3 false k))
+    (repeatsOf (listed asksF3 false k) (listed withF2 false k) (listed withF3 false k))

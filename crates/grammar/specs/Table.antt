@@ -34,10 +34,10 @@ sizeAt digit = getD sizeWords digit Prefix66.Only01
 
 -- the last digit: the words by their numbers, and from there on the last word
 abbrev pub repeatsWords : List PrefixRepeat
-repeatsWords = PrefixRepeat.Refused ∷ PrefixRepeat.F2 ∷ PrefixRepeat.F3 ∷ []
+repeatsWords = PrefixRepeat.Refused ∷ PrefixRepeat.F2 ∷ PrefixRepeat.F3 ∷ PrefixRepeat.Either ∷ []
 
 abbrev pub repeatsAt : ℕ → PrefixRepeat
-repeatsAt digit = getD repeatsWords digit PrefixRepeat.Either
+repeatsAt digit = getD repeatsWords digit PrefixRepeat.F3Asked
 
 -- FFFF: no such opcode
 unfoldable pub entryAt : ℕ → Entry

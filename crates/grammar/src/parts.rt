@@ -81,6 +81,7 @@ fn allows_f2(rule: PrefixRepeat) -> bool
         PrefixRepeat::F2 => true,
         PrefixRepeat::F3 => false,
         PrefixRepeat::Either => true,
+        PrefixRepeat::F3Asked => false,
     }
 }
 
@@ -93,6 +94,7 @@ fn allows_f3(rule: PrefixRepeat) -> bool
         PrefixRepeat::F2 => false,
         PrefixRepeat::F3 => true,
         PrefixRepeat::Either => true,
+        PrefixRepeat::F3Asked => true,
     }
 }
 
@@ -101,7 +103,13 @@ pub fn allows_repeat(rule: PrefixRepeat, repeat: Repeat) -> bool
     ensures { λ r. ⌜ r ≡ allowsRepeat rule repeat ⌝ }
 {
     match repeat {
-        Repeat::Absent => true,
+        Repeat::Absent => match rule {
+            PrefixRepeat::Refused => true,
+            PrefixRepeat::F2 => true,
+            PrefixRepeat::F3 => true,
+            PrefixRepeat::Either => true,
+            PrefixRepeat::F3Asked => false,
+        },
         Repeat::F2 => allows_f2(rule),
         Repeat::F3 => allows_f3(rule),
     }
@@ -114,7 +122,7 @@ pub fn escapes_after(narrow: bool, repeat: Repeat) -> bool
     match repeat {
         Repeat::Absent => true,
         Repeat::F2 => false,
-        Repeat::F3 => false,
+        Repeat::F3 => !narrow,
     }
 }
 

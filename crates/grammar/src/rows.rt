@@ -191,6 +191,14 @@ pub const SHRD_RM_REG_IMM: u8 = 92;
 
 pub const SHRD_RM_REG_CL: u8 = 93;
 
+pub const MOVE_SINGLE_REG_RM: u8 = 94;
+
+pub const MOVE_SINGLE_RM_REG: u8 = 95;
+
+pub const COMPUTE_SINGLE_REG_RM: u8 = 96;
+
+pub const COMPARE_SINGLE_REG_RM: u8 = 97;
+
 // No such opcode.
 pub const UNLISTED: u8 = 255;
 
@@ -464,6 +472,16 @@ pub fn row(opcode: usize) -> u8
         0x1A5 => SHLD_RM_REG_CL, // SHLD
         0x1AC => SHRD_RM_REG_IMM, // SHRD
         0x1AD => SHRD_RM_REG_CL, // SHRD
+        // M-106: F3 0F 10, 11; F3 0F 58, 59, 5C-5F; 0F 2F: all with ModR/M.
+        0x110 => MOVE_SINGLE_REG_RM, // MOVSS
+        0x111 => MOVE_SINGLE_RM_REG, // MOVSS
+        0x158 => COMPUTE_SINGLE_REG_RM, // ADDSS
+        0x159 => COMPUTE_SINGLE_REG_RM, // MULSS
+        0x15C => COMPUTE_SINGLE_REG_RM, // SUBSS
+        0x15D => COMPUTE_SINGLE_REG_RM, // MINSS
+        0x15E => COMPUTE_SINGLE_REG_RM, // DIVSS
+        0x15F => COMPUTE_SINGLE_REG_RM, // MAXSS
+        0x12F => COMPARE_SINGLE_REG_RM, // COMISS
         _ => UNLISTED,
     }
 }

@@ -34,12 +34,13 @@ pub enum Prefix66 {
     Only01,
 }
 
-// Which of F2 and F3 are allowed before the opcode.
+// Which of F2 and F3 are allowed before the opcode; F3Asked: F3 has to stand before it.
 pub enum PrefixRepeat {
     Refused,
     F2,
     F3,
     Either,
+    F3Asked,
 }
 
 // Which of F2 and F3 stands before an opcode.

@@ -52,10 +52,12 @@ const WITH_66: u16 = 0x0010;
 
 const WITH_66_FOR_0_1: u16 = 0x0020;
 
-// The last: which of F2 and F3 are allowed.
+// The last: which of F2 and F3 are allowed, or that F3 has to stand there.
 const WITH_F3: u16 = 0x0002;
 
 const WITH_F2_F3: u16 = 0x0003;
+
+const ASKS_F3: u16 = 0x0004;
 
 // The entries. A digit is 0 where its property is absent or refused.
 const ALONE: u16 = 0x0000;
@@ -75,6 +77,8 @@ const IMM_V_66: u16 = IMM_V + WITH_66;
 const ADDRESS_66: u16 = ADDRESS + WITH_66;
 
 const MODRM_66: u16 = MODRM + WITH_66;
+
+const MODRM_ASKS_F3: u16 = MODRM + ASKS_F3;
 
 const MODRM_IMM8: u16 = MODRM + IMM8;
 
@@ -212,6 +216,11 @@ fn row_entry(row: u8) -> u16
         rows::SHLD_RM_REG_CL => MODRM_66,
         rows::SHRD_RM_REG_IMM => MODRM_IMM8_66,
         rows::SHRD_RM_REG_CL => MODRM_66,
+        // M-106: F3 0F 10, 11; F3 0F 58, 59, 5C-5F; 0F 2F: all with ModR/M.
+        rows::MOVE_SINGLE_REG_RM => MODRM_ASKS_F3,
+        rows::MOVE_SINGLE_RM_REG => MODRM_ASKS_F3,
+        rows::COMPUTE_SINGLE_REG_RM => MODRM_ASKS_F3,
+        rows::COMPARE_SINGLE_REG_RM => MODRM,
         _ => UNLISTED,
     }
 }
@@ -277,7 +286,8 @@ fn repeats_of(digit: u16) -> PrefixRepeat
         0 => PrefixRepeat::Refused,
         1 => PrefixRepeat::F2,
         2 => PrefixRepeat::F3,
-        _ => PrefixRepeat::Either,
+        3 => PrefixRepeat::Either,
+        _ => PrefixRepeat::F3Asked,
     }
 }
 

@@ -2,5 +2,6 @@
 pub mod Access
 pub mod Allowed
 pub mod Changes
+pub mod Lists
 pub mod Outside
 pub mod Parts

@@ -1,17 +1,26 @@
--- Registers lent by themselves: what a function says of each machine that has them, and what a change makes of them. For functions that take registers lent; nothing here need be believed. Assumes nothing.
+-- Registers lent by themselves: what a function says of the machines that have them, and what a change makes of them. For functions that take registers lent; nothing here need be believed. Assumes nothing.
 use mathlib.Core.Path.{_≡_}
 use mathlib.Core.Bool.{cond}
-use mathlib.Core.List.{List}
+use mathlib.Core.List.{List, [], map}
 use Prim.Native.Nat.{ℕ}
 use lib.Dec.{ltb}
 use lib.ListN.{set}
 use Rattle.flags.specs.declared.Flags.{Flags}
+use Rattle.scalar.specs.declared.Xmm.{Xmm}
 use Rattle.machine.specs.declared.registers.Machine.{Machine}
 use Rattle.machine.specs.declared.registers.Change.{Change}
 
--- the machine with these registers, at this EIP, with these flags
+-- the machine with these registers and singles, at this EIP, with these flags
+abbrev pub machineOf : List ℕ → List Xmm → ℕ → Flags → Machine
+machineOf regs xmm eip f = record { regs = regs; xmm = xmm; eip = eip; flags = f }
+
+-- the same without singles, for what neither looks at them nor changes them
 abbrev pub holding : List ℕ → ℕ → Flags → Machine
-holding regs eip f = record { regs = regs; eip = eip; flags = f }
+holding regs eip f = machineOf regs [] eip f
+
+-- lent XMM registers, by their bits
+unfoldable pub xmmOf : List ℕ → List Xmm
+xmmOf xmm = map (λ (n : ℕ). record { bits = n }) xmm
 
 -- a is what `of` gives of each machine with these registers, wherever it is and whatever its flags are
 abbrev pub Gives : {A : Type 0} → List ℕ → (Machine → A) → A → Type 0

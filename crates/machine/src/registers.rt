@@ -1,4 +1,4 @@
-// The machine: eight 32-bit registers, EIP and the flags. Functions that look at or change registers alone take them lent; a method takes the whole machine and gives the next one.
+// The machine: eight 32-bit registers, eight XMM registers, EIP and the flags. Functions that look at or change registers alone take them lent; a method takes the whole machine and gives the next one.
 ghost use mathlib.Core.Path.{_≡_};
 ghost use mathlib.Core.Bool.{cond};
 ghost use Prim.Native.Nat.{_%_, _<_};
@@ -9,19 +9,24 @@ ghost use Rattle.machine.specs.Registers.{
   withRegister,
   withEip,
   withFlags,
+  bitsIn,
+  withBits,
+  withSingle,
   holder,
   lowest,
   part,
   replaced,
   withPart,
 };
-ghost use Rattle.machine.specs.Lending.{holding, Gives, Makes, changed};
+ghost use Rattle.machine.specs.Lending.{machineOf, xmmOf, Gives, Makes, changed};
 use flags::Flags;
+use scalar::Xmm;
 use width::Size;
 
 // The machine as a value, its flags apart. A run holds registers, EIP and the flags word each by itself.
 pub struct Machine {
     pub regs: [u32; 8],
+    pub xmm: [Xmm; 8],
     pub eip: u32,
     pub flags: Flags,
 }
@@ -95,6 +100,52 @@ fn with_byte(i: u32, v: u32, x: u32) -> u32
     }
 }
 
+// XMM registers by their bits, to be lent.
+pub fn bits_of(xmm: [Xmm; 8]) -> [u32; 8]
+    ensures { λ r. ⌜ xmmOf r ≡ xmm ⌝ }
+{
+    [
+        xmm[0].bits,
+        xmm[1].bits,
+        xmm[2].bits,
+        xmm[3].bits,
+        xmm[4].bits,
+        xmm[5].bits,
+        xmm[6].bits,
+        xmm[7].bits,
+    ]
+}
+
+// The XMM registers of their bits.
+pub fn xmm_of(bits: [u32; 8]) -> [Xmm; 8]
+    ensures { λ r. ⌜ r ≡ xmmOf bits ⌝ }
+{
+    [
+        Xmm { bits: bits[0] },
+        Xmm { bits: bits[1] },
+        Xmm { bits: bits[2] },
+        Xmm { bits: bits[3] },
+        Xmm { bits: bits[4] },
+        Xmm { bits: bits[5] },
+        Xmm { bits: bits[6] },
+        Xmm { bits: bits[7] },
+    ]
+}
+
+// The bits of a lent XMM register.
+pub fn single(xmm: &[u32; 8], i: u32) -> u32
+    ensures { λ r. ⌜ r ≡ bitsIn (xmmOf (now (xmm .entry))) i ⌝ }
+{
+    xmm[(i % 8) as usize]
+}
+
+// Other bits put into a lent XMM register.
+pub fn put_single(xmm: &mut [u32; 8], i: u32, bits: u32)
+    ensures { λ _. ⌜ xmmOf (now (xmm .exit)) ≡ withBits (xmmOf (now (xmm .entry))) i bits ⌝ }
+{
+    xmm[(i % 8) as usize] = bits;
+}
+
 // A change made in place.
 pub fn put(regs: &mut [u32; 8], c: Change)
     ensures { λ _. ⌜ now (regs .exit) ≡ changed c (now (regs .entry)) ⌝ }
@@ -152,9 +203,18 @@ impl Machine {
         self
     }
 
+    // The machine with other bits in an XMM register.
+    pub fn with_single(mut self, i: u32, bits: u32) -> Machine
+        ensures { λ r. ⌜ r ≡ withSingle self i bits ⌝ }
+    {
+        let at = (i % 8) as usize;
+        self.xmm[at] = Xmm { bits };
+        self
+    }
+
     // The machine with a change made.
     pub fn with_change(self, c: Change) -> Machine
-        ensures { λ r. ⌜ r ≡ holding (changed c (self .regs)) (self .eip) (self .flags) ⌝ }
+        ensures { λ r. ⌜ r ≡ machineOf (changed c (self .regs)) (self .xmm) (self .eip) (self .flags) ⌝ }
     {
         if c.register < 8 {
             self.with_register(c.register, c.value)

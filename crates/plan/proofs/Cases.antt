@@ -8,18 +8,14 @@ use Rattle.width.specs.Numbers.{residue, rest}
 use Rattle.flags.specs.Word.{flagsOf}
 use Rattle.machine.specs.declared.registers.Machine.{Machine}
 use Rattle.machine.specs.Registers.{register}
+use Rattle.machine.specs.Lending.{holding}
 use Rattle.plan.specs.declared.Address.{Address}
 use Rattle.plan.specs.Addresses.{scaledIndex, baseRegister, addressBase, effectiveAddress}
 use Rattle.plan.specs.Plans.{offsetAlone}
 
 -- ECX = C0000001h
 abbrev pub before : Machine
-before =
-    record {
-      regs = 0 ∷ 0xC000_0001 ∷ 0 ∷ 0 ∷ 0 ∷ 0 ∷ 0 ∷ 0 ∷ [];
-      eip = 0;
-      flags = flagsOf 0x0002;
-    }
+before = holding (0 ∷ 0xC000_0001 ∷ 0 ∷ 0 ∷ 0 ∷ 0 ∷ 0 ∷ 0 ∷ []) 0 (flagsOf 0x0002)
 
 -- of 8D 04 8D 10 00 00 00
 abbrev pub address : Address

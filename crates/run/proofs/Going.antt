@@ -8,7 +8,7 @@ use native.Mathlib.Omega.{arith}
 use lib.ListN.{length}
 use Rattle.machine.specs.declared.registers.Machine.{Machine}
 use Rattle.effect.specs.declared.outcome.Changes.{Changes}
-use Rattle.effect.specs.Changes.{applied}
+use Rattle.effect.specs.Changes.{madeOf}
 use Rattle.run.specs.declared.step.Stepped.{Stepped}
 use Rattle.run.specs.declared.step.Taken.{Taken}
 use Rattle.run.specs.Steps.{Fixed, Moved, next, stop, stepOf, movedTo, stoppedAt, steppedOf, dataAfter, Steps}
@@ -22,7 +22,7 @@ stepped (next m′ d′) s going = rw (s .is, s .left)
 stepped (stop n a) s going = absurd (let e = s .is in let z : _≡_ {A = ℕ} 0 1 = cc in omega arith)
 
 -- a step that goes moved to the machine with its changes made, and to the data that it left
-pub went : (moved : Moved) {m : Machine} {d after : List ℕ} (c : Changes) → Takes moved m d (Taken.Goes c) after → moved ≡ next ((applied c (m .regs)) .machine) after
+pub went : (moved : Moved) {m : Machine} {d after : List ℕ} (c : Changes) → Takes moved m d (Taken.Goes c) after → moved ≡ next (madeOf c (m .regs) (m .xmm)) after
 unfolding steppedBy movedTo
 went moved c s = stepped moved s refl
 

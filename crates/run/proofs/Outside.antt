@@ -22,7 +22,7 @@ use Rattle.grammar.specs.declared.instruction.Found.{Found}
 use Rattle.blockcheck.specs.Blocks.{codeBase}
 use Rattle.plan.specs.declared.Plan.{Plan}
 use Rattle.effect.specs.declared.outcome.Outcome.{Outcome}
-use Rattle.effect.specs.declared.outcome.Outcome.the-variants.{Becomes, Writes, Faults}
+use Rattle.effect.specs.declared.outcome.Outcome.the-variants.{Becomes, Writes, Sets, Faults}
 use Rattle.effect.specs.Outcomes.{Effect}
 use Rattle.effect.specs.declared.outcome.Reads.{Reads}
 use Rattle.effect.specs.declared.outcome.Reads.the-variants.{Nothing, One, Two}
@@ -65,6 +65,7 @@ module _ (constants d : List ℕ) (long : length d ≤ 65_536) (long′ : length
   unfolding committed
   committed-stops Becomes e m = goes
   committed-stops Writes e m = stored-stops e _ refl
+  committed-stops Sets e m = goes
   committed-stops Faults e m = stops 7 (silent (λ e. omega arith) (λ e. omega arith))
 
   -- with the effect of what was read

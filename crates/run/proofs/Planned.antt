@@ -1,47 +1,62 @@
 -- The step of a plan: it stops with 5, 6 or 7, or goes on to the machine of its effect. Assumes nothing.
-use mathlib.Core.Path.{_≡_, refl}
+use mathlib.Core.Path.{_≡_, refl, ap, _∙_}
 use mathlib.Core.List.{List}
-use Prim.Native.Nat.{ℕ, _≤_}
+use Prim.Native.Nat.{ℕ, _%_, _≤_}
 use native.Mathlib.Omega.{arith}
-use lib.ListN.{length}
+use lib.ListN.{length, length-set}
+use Rattle.scalar.specs.declared.Xmm.{Xmm}
 use Rattle.machine.specs.declared.registers.Machine.{Machine}
 use Rattle.machine.specs.declared.memory.Loaded.{Loaded}
 use Rattle.machine.specs.declared.memory.Loaded.the-variants.{Value}
 use Rattle.machine.specs.declared.memory.Stored.{Stored}
 use Rattle.machine.specs.declared.memory.Stored.the-variants.{Done}
+use Rattle.machine.specs.Registers.{withXmm, withBits, withSingle}
 use Rattle.machine.specs.Memory.{loadOf}
 use Rattle.machine.proofs.Access.{store-length}
 use Rattle.plan.specs.declared.Plan.{Plan}
 use Rattle.effect.specs.declared.outcome.Outcome.{Outcome}
-use Rattle.effect.specs.declared.outcome.Outcome.the-variants.{Becomes, Writes, Faults}
+use Rattle.effect.specs.declared.outcome.Outcome.the-variants.{Becomes, Writes, Sets, Faults}
 use Rattle.effect.specs.declared.outcome.Reads.{Reads}
 use Rattle.effect.specs.declared.outcome.Reads.the-variants.{Nothing, One, Two}
 use Rattle.effect.specs.All.{effectBy}
+use Rattle.effect.proofs.Framing.{singles-kept}
 use Rattle.run.specs.Steps.{Moved, next, stop, stored, committed, finished, loaded, performed, operandAddress, planned}
 
--- the step of a plan goes on to the machine of its effect, with data of the same length, or stops with a number from 5 to 7
+-- the step of a plan goes on to the machine of its effect, with as many singles and data of the same length, or stops with a number from 5 to 7
 pub data Comes (p : Plan) (m : Machine) (a : ℕ) (d : List ℕ) : Moved → Type 0 where
-  goes-on : (r s : ℕ) {d′ : List ℕ} → length d′ ≡ length d → Comes p m a d (next ((effectBy (p .operation) m p a r s) .machine) d′)
+  goes-on : (r s : ℕ) (xmm : List Xmm) {d′ : List ℕ} → length xmm ≡ length (m .xmm) → length d′ ≡ length d
+      → Comes p m a d (next (withXmm ((effectBy (p .operation) m p a r s) .machine) xmm) d′)
   stops : (n : ℕ) {b : ℕ} → 5 ≤ n → n ≤ 7 → Comes p m a d (stop n b)
 
--- the machine after the effect of a plan, with what was read
+-- the machine after the effect of a plan, with what was read, but for its singles
 pub record Effected (p : Plan) (m after : Machine) : Type 0 where
   pub r : ℕ
   pub s : ℕ
-  pub is : after ≡ (effectBy (p .operation) m p (operandAddress p m) r s) .machine
+  pub xmm : List Xmm
+  pub is : after ≡ withXmm ((effectBy (p .operation) m p (operandAddress p m) r s) .machine) xmm
 
 module _ (p : Plan) (m : Machine) (a : ℕ) (d : List ℕ) where
+  -- the effect's machine has as many singles
+  as-many : (r s : ℕ) → length ((effectBy (p .operation) m p a r s) .machine .xmm) ≡ length (m .xmm)
+  as-many r s = ap length (singles-kept (p .operation) m p a r s)
+
+  -- with bits put into one
+  as-many-put : (xmm : List Xmm) (i v : ℕ) → length (withBits xmm i v) ≡ length xmm
+  unfolding withBits
+  as-many-put xmm i v = length-set xmm (i % 8) (record { bits = v })
+
   -- so it is with a write
   stored-comes : (answer : Stored) (r s : ℕ) → Comes p m a d (stored answer (effectBy (p .operation) m p a r s) d)
-  unfolding stored
-  stored-comes Done r s = goes-on r s (store-length d _ _ _)
+  unfolding stored withXmm
+  stored-comes Done r s = goes-on r s _ (as-many r s) (store-length d _ _ _)
   stored-comes (Stored.Outside b) r s = stops 6 (omega arith) (omega arith)
 
   -- with an effect
   committed-comes : (o : Outcome) (r s : ℕ) → Comes p m a d (committed o (effectBy (p .operation) m p a r s) m d)
-  unfolding committed
-  committed-comes Becomes r s = goes-on r s refl
+  unfolding committed withXmm withSingle
+  committed-comes Becomes r s = goes-on r s _ (as-many r s) refl
   committed-comes Writes r s = stored-comes _ r s
+  committed-comes Sets r s = goes-on r s _ (as-many-put _ _ _ ∙ as-many r s) refl
   committed-comes Faults r s = stops 7 (omega arith) (omega arith)
 
   -- with the effect of what was read
@@ -74,7 +89,7 @@ module _ (constants : List ℕ) (p : Plan) (m : Machine) (d : List ℕ) where
   planned-stops {n} {a} = by planned-comes
     where
       by : {moved : Moved} → Comes p m (operandAddress p m) d moved → moved ≡ stop n a → (5 ≤ n) × (n ≤ 7)
-      by (goes-on r s l) e = absurd (let z : _≡_ {A = ℕ} 0 1 = cc in omega arith)
+      by (goes-on r s xmm k l) e = absurd (let z : _≡_ {A = ℕ} 0 1 = cc in omega arith)
       by (stops k l h) e = let z : n ≡ k = cc in (omega arith, omega arith)
 
   -- and goes on only to the machine of its effect
@@ -82,5 +97,5 @@ module _ (constants : List ℕ) (p : Plan) (m : Machine) (d : List ℕ) where
   planned-goes {m′} {d′} = by planned-comes
     where
       by : {moved : Moved} → Comes p m (operandAddress p m) d moved → moved ≡ next m′ d′ → Effected p m m′
-      by (goes-on r s l) e = record { r = r; s = s; is = cc }
+      by (goes-on r s xmm k l) e = record { r = r; s = s; xmm = xmm; is = cc }
       by (stops k l h) e = absurd (let z : _≡_ {A = ℕ} 0 1 = cc in omega arith)

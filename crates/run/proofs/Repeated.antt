@@ -12,7 +12,7 @@ use borrow.Author.Tests.{ne-eqb}
 use Rattle.width.specs.Sizes.{bits, modulus}
 use Rattle.width.specs.Numbers.{residue, rest}
 use Rattle.machine.specs.declared.registers.Machine.{Machine}
-use Rattle.machine.specs.Registers.{register, withEip}
+use Rattle.machine.specs.Registers.{register, withEip, withXmm}
 use Rattle.grammar.specs.declared.instruction.Decoded.{Decoded}
 use Rattle.grammar.proofs.Answered.{found-standing}
 use Rattle.grammar.proofs.Eleven.{found-eleven}
@@ -111,12 +111,13 @@ module _ {fixed : Fixed} {i : Decoded} {op : Strings} {m : Machine} (at : Repeat
     -- otherwise a step that is not stopped does one round, ECX less 1
     pub one-round : {n : ℕ} {m′ : Machine} {d′ : List ℕ} → register m ecx ≡ suc n → register m ecx < 2 ^ 32
         → stepOf fixed m d ≡ next m′ d′ → Round i m m′ n
+    unfolding register withXmm
     one-round {n} count bound e =
         let p = planOf (m .eip) i in
         let done = planned-goes (fixed .constants) p m d (sym is-planned ∙ e) in
         let r = done .r in
         let s = done .s in
-        let is = done .is ∙ ap (λ (x : Effect). x .machine) (is-effect _ r s) in
+        let is = done .is ∙ ap (λ (x : Effect). withXmm (x .machine) (done .xmm)) (is-effect _ r s) in
         record {
           count = ap (λ (x : Machine). register x ecx) is ∙ counts op m p r s (at .prefix) n count bound (at .eight);
           many = ap (λ (x : Machine). length (x .regs)) is ∙ as-many op m p r s (at .prefix) n count bound ∙ at .eight;

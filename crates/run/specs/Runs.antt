@@ -50,11 +50,11 @@ refusalOf fixed d word budget = refusal (length (fixed .code)) (length d) (lengt
 
 -- the lent machine, with its flags taken apart
 unfoldable pub opened : Lent → Machine
-opened l = record { regs = l .regs; eip = l .eip; flags = flagsOf (l .word) }
+opened l = record { regs = l .regs; xmm = l .xmm; eip = l .eip; flags = flagsOf (l .word) }
 
 -- a machine as it is handed back
 unfoldable pub closed : Machine → Lent
-closed m = record { regs = m .regs; eip = m .eip; word = wordOf (m .flags) }
+closed m = record { regs = m .regs; xmm = m .xmm; eip = m .eip; word = wordOf (m .flags) }
 
 -- what a run hands back, and the data that it leaves
 pub record HandedBack : Type 0 where
@@ -84,7 +84,8 @@ runOf fixed l d budget =
     cond (eqb (refusalOf fixed d (l .word) budget) 0) (taken (runFrom fixed budget (opened l) d 0))
     (refused l d (refusalOf fixed d (l .word) budget))
 
--- a machine has as many registers as another, and its data are as long as the other's
+-- a machine has as many registers and XMM registers as another, and its data are as long as the other's
 pub record Kept (m : Machine) (d : List ℕ) (m′ : Machine) (d′ : List ℕ) : Type 0 where
   pub registers : length (m′ .regs) ≡ length (m .regs)
+  pub singles : length (m′ .xmm) ≡ length (m .xmm)
   pub long : length d′ ≡ length d

@@ -10,6 +10,7 @@ use Rattle.machine.specs.declared.memory.Loaded.{Loaded}
 use Rattle.machine.specs.declared.memory.Loaded.the-variants.{Value}
 use Rattle.machine.specs.declared.memory.Stored.{Stored}
 use Rattle.machine.specs.declared.memory.Stored.the-variants.{Done}
+use Rattle.machine.specs.Registers.{withSingle}
 use Rattle.machine.specs.Memory.{loadOf, storedOf, storeOf}
 use Rattle.grammar.specs.Decoding.{decodeOf}
 use Rattle.grammar.specs.declared.instruction.Found.{Found}
@@ -18,7 +19,7 @@ use Rattle.plan.specs.declared.Plan.{Plan}
 use Rattle.plan.specs.Addresses.{effectiveAddress}
 use Rattle.plan.specs.Plans.{planOf}
 use Rattle.effect.specs.declared.outcome.Outcome.{Outcome}
-use Rattle.effect.specs.declared.outcome.Outcome.the-variants.{Becomes, Writes, Faults}
+use Rattle.effect.specs.declared.outcome.Outcome.the-variants.{Becomes, Writes, Sets, Faults}
 use Rattle.effect.specs.Outcomes.{Effect}
 use Rattle.effect.specs.declared.outcome.Reads.{Reads}
 use Rattle.effect.specs.declared.outcome.Reads.the-variants.{Nothing, One, Two}
@@ -56,6 +57,7 @@ stored (Stored.Outside a) e d = stop 6 a
 unfoldable pub committed : Outcome → Effect → Machine → List ℕ → Moved
 committed Becomes e m d = next (e .machine) d
 committed Writes e m d = stored (storedOf d (e .size) (e .address)) e d
+committed Sets e m d = next (withSingle (e .machine) (e .address) (e .value)) d
 committed Faults e m d = stop 7 (m .eip)
 
 -- the effect of a plan with what was read, where a is where its operand in memory is

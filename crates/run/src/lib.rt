@@ -8,14 +8,20 @@ use crate::site::stopping;
 use crate::site::take;
 use crate::step::Taken;
 use effect::outcome::make;
+use effect::outcome::make_single;
 use machine::registers::Machine;
+use machine::registers::bits_of;
+use machine::registers::xmm_of;
+use scalar::Xmm;
 ghost use mathlib.Core.Path.{_≡_};
+ghost use Rattle.effect.specs.Changes.{lent};
 ghost use Rattle.run.specs.Steps.{fixedTo};
 ghost use Rattle.run.specs.Runs.{Ends, Runs, runFrom, refusal, opened, closed, runOf};
 
 // The machine as the caller lends it, and gets it back: with the flags word.
 pub struct Lent {
     pub regs: [u32; 8],
+    pub xmm: [Xmm; 8],
     pub eip: u32,
     pub word: u32,
 }
@@ -67,25 +73,27 @@ fn refusal(
     12
 }
 
-// The lent machine, with its flags taken apart.
-fn open(l: Lent) -> Machine
-    ensures { λ r. ⌜ r ≡ opened l ⌝ }
+// The machine of registers, XMM registers by their bits, EIP and the flags word.
+fn machine_of(regs: [u32; 8], xmm: [u32; 8], eip: u32, word: u32) -> Machine
+    ensures { λ r. ⌜ r ≡ lent regs xmm eip word ⌝ }
 {
-    let regs = l.regs;
     Machine {
         regs,
-        eip: l.eip,
-        flags: flags::unpack(l.word),
+        xmm: xmm_of(xmm),
+        eip,
+        flags: flags::unpack(word),
     }
 }
 
-// So many steps at the most, until one stops, on the lent registers and flags word. What a step takes from the code alone is kept by EIP modulo 64.
+// So many steps at the most, until one stops, on the lent registers, XMM registers and flags word. What a step takes from the code alone is kept by EIP modulo 64.
 fn steps(code: &[u8], constants: &[u8], l: Lent, area: &mut [u8], budget: u64) -> End
     ensures { λ r. ⌜ Ends (runFrom (fixedTo (now (code .entry)) (now (constants .entry))) budget (opened l) (now (area .entry)) 0) r (now (area .exit)) ⌝ }
 {
     let none = stopping(0, 0);
     let mut kept = [none; 64];
     let mut regs = l.regs;
+    let singles = l.xmm;
+    let mut xmm = bits_of(singles);
     let mut eip = l.eip;
     let mut word = l.word;
     let mut n = 0;
@@ -96,15 +104,16 @@ fn steps(code: &[u8], constants: &[u8], l: Lent, area: &mut [u8], budget: u64) -
             kept[slot] = site_at(code, eip);
         }
         let here = kept[slot];
-        match take(here, &regs, eip, word, constants, area) {
+        match take(here, &regs, &xmm, eip, word, constants, area) {
             Taken::Goes(c) => {
                 make(&mut regs, c);
+                make_single(&mut xmm, c);
                 eip = c.next;
                 word = c.word;
             }
             Taken::Stops { number, address } => {
                 return End {
-                    machine: open(Lent { regs, eip, word }),
+                    machine: machine_of(regs, xmm, eip, word),
                     steps: n,
                     number,
                     address,
@@ -114,7 +123,7 @@ fn steps(code: &[u8], constants: &[u8], l: Lent, area: &mut [u8], budget: u64) -
         n += 1;
     }
     End {
-        machine: open(Lent { regs, eip, word }),
+        machine: machine_of(regs, xmm, eip, word),
         steps: n,
         number: 0,
         address: eip,
@@ -126,9 +135,11 @@ fn close(m: Machine) -> Lent
     ensures { λ r. ⌜ r ≡ closed m ⌝ }
 {
     let regs = m.regs;
+    let xmm = m.xmm;
     let f = m.flags;
     Lent {
         regs,
+        xmm,
         eip: m.eip,
         word: flags::pack(f),
     }

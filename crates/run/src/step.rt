@@ -11,6 +11,7 @@ use effect::outcome::after;
 use machine::memory::Loaded;
 use machine::memory::Stored;
 use machine::registers::Machine;
+use machine::registers::bits_of;
 use plan::Plan;
 use width::Size;
 ghost use mathlib.Core.Path.{_≡_};
@@ -18,8 +19,9 @@ ghost use mathlib.Core.List.{List};
 ghost use Prim.Native.Nat.{ℕ};
 ghost use Rattle.flags.specs.declared.Flags.{Flags};
 ghost use Rattle.machine.specs.Memory.{loadOf};
-ghost use Rattle.machine.specs.Lending.{holding};
-ghost use Rattle.effect.specs.Changes.{held, applied};
+ghost use Rattle.scalar.specs.declared.Xmm.{Xmm};
+ghost use Rattle.machine.specs.Lending.{machineOf};
+ghost use Rattle.effect.specs.Changes.{lent, framed, applied};
 ghost use Rattle.run.specs.Steps.{
   fixedTo,
   stoppedAt,
@@ -43,7 +45,7 @@ pub struct Stepped {
     pub address: u32,
 }
 
-// What a step does on lent registers: what it changes, or that it stops with a number and an address.
+// What a step does on lent registers and XMM registers: what it changes, or that it stops with a number and an address.
 pub enum Taken {
     Goes(Changes),
     Stops { number: u32, address: u32 },
@@ -59,8 +61,8 @@ pub fn stops(number: u32, address: u32) -> Taken
 // The effect's one write, if it has one, and then the changes.
 fn commit(c: Changes, eip: u32, area: &mut [u8]) -> Taken
     ensures { λ r. ⌜
-        ((regs : List ℕ) (f : Flags)
-        → Takes (committed (c .outcome) (applied c regs) (holding regs eip f) (now (area .entry))) (holding regs eip f) (now (area .entry)) r (now (area .exit)))
+        ((regs : List ℕ) (xmm : List Xmm) (f : Flags)
+        → Takes (committed (c .outcome) (framed xmm (applied c regs)) (machineOf regs xmm eip f) (now (area .entry))) (machineOf regs xmm eip f) (now (area .entry)) r (now (area .exit)))
         ⌝ }
 {
     let outcome = c.outcome;
@@ -73,6 +75,7 @@ fn commit(c: Changes, eip: u32, area: &mut [u8]) -> Taken
                 Stored::Outside(a) => stops(6, a),
             }
         }
+        Outcome::Sets => Taken::Goes(c),
         Outcome::Faults => stops(7, eip),
     }
 }
@@ -81,6 +84,7 @@ fn commit(c: Changes, eip: u32, area: &mut [u8]) -> Taken
 fn finish(
     p: Plan,
     regs: &[u32; 8],
+    xmm: &[u32; 8],
     eip: u32,
     word: u32,
     a: u32,
@@ -88,10 +92,10 @@ fn finish(
     r: u32,
     s: u32,
 ) -> Taken
-    ensures { λ t. ⌜ Takes (finished p (held (now (regs .entry)) eip word) a (now (area .entry)) r s) (held (now (regs .entry)) eip word) (now (area .entry)) t (now (area .exit)) ⌝ }
+    ensures { λ t. ⌜ Takes (finished p (lent (now (regs .entry)) (now (xmm .entry)) eip word) a (now (area .entry)) r s) (lent (now (regs .entry)) (now (xmm .entry)) eip word) (now (area .entry)) t (now (area .exit)) ⌝ }
 {
     let op = p.operation;
-    commit(effect_by(op, regs, eip, word, p, a, r, s), eip, area)
+    commit(effect_by(op, regs, xmm, eip, word, p, a, r, s), eip, area)
 }
 
 // What was read, 0 where nothing was; or the address that is outside.
@@ -152,16 +156,27 @@ fn perform(
     reads: Reads,
     p: Plan,
     regs: &[u32; 8],
+    xmm: &[u32; 8],
     eip: u32,
     word: u32,
     a: u32,
     constants: &[u8],
     area: &mut [u8],
 ) -> Taken
-    ensures { λ r. ⌜ Takes (performed (now (constants .entry)) reads p (held (now (regs .entry)) eip word) a (now (area .entry))) (held (now (regs .entry)) eip word) (now (area .entry)) r (now (area .exit)) ⌝ }
+    ensures { λ r. ⌜ Takes (performed (now (constants .entry)) reads p (lent (now (regs .entry)) (now (xmm .entry)) eip word) a (now (area .entry))) (lent (now (regs .entry)) (now (xmm .entry)) eip word) (now (area .entry)) r (now (area .exit)) ⌝ }
 {
     match fetch(reads, constants, area) {
-        Fetched::Values { first, second } => finish(p, regs, eip, word, a, area, first, second),
+        Fetched::Values { first, second } => finish(
+            p,
+            regs,
+            xmm,
+            eip,
+            word,
+            a,
+            area,
+            first,
+            second,
+        ),
         Fetched::Outside(b) => stops(5, b),
     }
 }
@@ -170,12 +185,13 @@ fn perform(
 pub fn follow(
     p: Plan,
     regs: &[u32; 8],
+    xmm: &[u32; 8],
     eip: u32,
     word: u32,
     constants: &[u8],
     area: &mut [u8],
 ) -> Taken
-    ensures { λ r. ⌜ Takes (planned (now (constants .entry)) p (held (now (regs .entry)) eip word) (now (area .entry))) (held (now (regs .entry)) eip word) (now (area .entry)) r (now (area .exit)) ⌝ }
+    ensures { λ r. ⌜ Takes (planned (now (constants .entry)) p (lent (now (regs .entry)) (now (xmm .entry)) eip word) (now (area .entry))) (lent (now (regs .entry)) (now (xmm .entry)) eip word) (now (area .entry)) r (now (area .exit)) ⌝ }
 {
     let op = p.operation;
     let address = p.address;
@@ -184,6 +200,7 @@ pub fn follow(
         reads_by(op, regs, p, a),
         p,
         regs,
+        xmm,
         eip,
         word,
         a,
@@ -231,10 +248,13 @@ pub fn step(code: &[u8], constants: &[u8], m: Machine, area: &mut [u8]) -> Stepp
     ensures { λ r. ⌜ Steps (stepOf (fixedTo (now (code .entry)) (now (constants .entry))) m (now (area .entry))) m (now (area .entry)) r (now (area .exit)) ⌝ }
 {
     let regs = m.regs;
+    let singles = m.xmm;
+    let xmm = bits_of(singles);
     let f = m.flags;
     let t = take(
         site_at(code, m.eip),
         &regs,
+        &xmm,
         m.eip,
         flags::pack(f),
         constants,

@@ -13,6 +13,7 @@ use Rattle.width.specs.declared.Size.the-variants.{Dword}
 use Rattle.width.specs.Sizes.{bits, modulus}
 use Rattle.width.specs.Numbers.{rest, residue}
 use Rattle.machine.specs.declared.registers.Machine.{Machine}
+use Rattle.machine.specs.Registers.{withXmm}
 use Rattle.grammar.specs.Decoding.{decodeOf}
 use Rattle.grammar.specs.Relative.{relativeOf}
 use Rattle.grammar.specs.declared.instruction.Decoded.{Decoded}
@@ -91,8 +92,8 @@ module _ {code : List ℕ} (ok : Acceptable code) (m : Machine) {i : ℕ} (start
 
   -- the step of the instruction is safe
   comes-safe : {a : ℕ} {d : List ℕ} {moved : Moved} → Comes (planOf (m .eip) x) m a d moved → Safe code m moved
-  unfolding indirectAt indirectFound codeBase
-  comes-safe {a} (goes-on r s l) =
+  unfolding indirectAt indirectFound codeBase withXmm
+  comes-safe {a} (goes-on r s xmm k l) =
       let place : m .eip - codeBase ≡ i = omega arith in
       goes (λ direct. way-landed (way ((planOf (m .eip) x) .operation) m (planOf (m .eip) x) a r s (rw (place, found) at direct)))
   comes-safe (stops n low high) = halts (late n low)

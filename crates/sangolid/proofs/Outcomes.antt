@@ -1,11 +1,12 @@
 -- What the contracts permit is determined, and a refused run leaves the machine's words as they are. Assumes nothing.
 use mathlib.Core.Path.{_≡_, refl, sym, ap, _∙_}
 use mathlib.Core.List.{List, [], _∷_, _++_}
-use Prim.Native.Nat.{ℕ, zero, suc, _+_, _≤_}
+use Prim.Native.Nat.{ℕ}
 use native.Mathlib.Omega.{arith}
-use lib.ListN.{length, getD, take, drop}
-use lib.Seq.{drop-cons}
+use lib.ListN.{length, getD, take}
 use borrow.Author.Tests.{eq-eqb, ne-eqb}
+use Rattle.machine.specs.Registers.{bitsIn}
+use Rattle.machine.proofs.Lists.{part-listed}
 use Rattle.blockcheck.proofs.Verdicts.{judged-unique}
 use Rattle.hex.proofs.Outcomes.{outcome-unique}
 use Rattle.run.specs.Steps.{Fixed}
@@ -36,23 +37,12 @@ unhexes-unique (unhexed p first) (unhexed q second) =
     let (number, value, code) = outcome-unique first second in
     (number, code, ap (λ (v : ℕ). wordOf v ∷ []) value)
 
--- so many elements from a place on, one by one
-abbrev pub listed : ℕ → ℕ → List ℕ → List ℕ
-listed zero k l = []
-listed (suc n) k l = getD l k 0 ∷ listed n (suc k) l
-
--- they are that part of the list
-pub part-listed : (n k : ℕ) (l : List ℕ) → k + n ≤ length l → listed n k l ≡ take n (drop k l)
-part-listed zero k l h = refl
-part-listed (suc n) k l h =
-    rw (drop-cons l k 0 (omega arith)) (ap (λ (r : List ℕ). getD l k 0 ∷ r) (part-listed n (suc k) l (omega arith)))
-
--- 10 to 13 and 15 keep the ten words of the machine: 0 steps, address 0, and the data as handed in
-pub refused-keeps : (state : List ℕ) (fixed : Fixed) (d : List ℕ) (budget : ℕ) → length state ≡ 12
+-- 10 to 13 and 15 keep the eighteen words of the machine: 0 steps, address 0, and the data as handed in
+pub refused-keeps : (state : List ℕ) (fixed : Fixed) (d : List ℕ) (budget : ℕ) → length state ≡ 20
     → (refusalOf fixed d (getD state 9 0) budget ≡ 0 → ⊥)
     → callOf state fixed d budget
-    ≡ record { number = refusalOf fixed d (getD state 9 0) budget; state = take 10 state ++ (0 ∷ 0 ∷ []); area = d }
-unfolding callOf called runOf refused lentOf stateOf
+    ≡ record { number = refusalOf fixed d (getD state 9 0) budget; state = take 18 state ++ (0 ∷ 0 ∷ []); area = d }
+unfolding callOf called runOf refused lentOf stateOf bitsIn
 refused-keeps state fixed d budget long some =
     rw (eq-eqb _ _ long, ne-eqb _ _ some)
-    (ap (λ (words : List ℕ). record { number = refusalOf fixed d (getD state 9 0) budget; state = words ++ (0 ∷ 0 ∷ []); area = d }) (part-listed 10 0 state (omega arith)))
+    (ap (λ (words : List ℕ). record { number = refusalOf fixed d (getD state 9 0) budget; state = words ++ (0 ∷ 0 ∷ []); area = d }) (part-listed 0 18 0 state (omega arith)))

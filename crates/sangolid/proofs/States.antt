@@ -12,7 +12,8 @@ use Rattle.run.specs.declared.Lent.{Lent}
 use Rattle.run.specs.declared.Ran.{Ran}
 use Rattle.run.specs.Steps.{Fixed}
 use Rattle.run.specs.Runs.{Runs, runOf}
-use Rattle.sangolid.specs.Interface.{misfit, lentOf, stateOf, called, callOf, Calls, Checks, judged, wordOf, Unhexes, unhexed}
+use Rattle.machine.specs.Registers.{bitsIn}
+use Rattle.sangolid.specs.Interface.{restOf, misfit, lentOf, stateOf, called, callOf, Calls, Checks, judged, wordOf, Unhexes, unhexed}
 use Rattle.sangolid.proofs.Bounds.{steps-fit}
 
 -- an area as long as what is written over it holds nothing else
@@ -29,32 +30,42 @@ four-sets l i a b c d =
     let three : i + 3 ≡ suc (suc (suc i)) = omega arith in
     rw (one, two, three) refl
 
--- twelve words, four at a time, are a whole state
-pub handed : (state : List ℕ) (r : Ran) → length state ≡ 12
+-- twelve words, four at a time, are the rest of a state
+pub rest-sets : (state : List ℕ) (m : Lent) (steps address : ℕ)
+    → sets
+    (sets (sets state 8 (m .eip ∷ m .word ∷ bitsIn (m .xmm) 0 ∷ bitsIn (m .xmm) 1 ∷ [])) 12
+    (bitsIn (m .xmm) 2 ∷ bitsIn (m .xmm) 3 ∷ bitsIn (m .xmm) 4 ∷ bitsIn (m .xmm) 5 ∷ []))
+    16
+    (bitsIn (m .xmm) 6 ∷ bitsIn (m .xmm) 7 ∷ steps ∷ address ∷ [])
+    ≡ sets state 8 (restOf m steps address)
+rest-sets state m steps address = refl
+
+-- eight words, four at a time, and the rest are a whole state
+pub handed : (state : List ℕ) (r : Ran) → length state ≡ 20
     → sets
     (sets
     (sets state 0 (getD (r .machine .regs) 0 0 ∷ getD (r .machine .regs) 1 0 ∷ getD (r .machine .regs) 2 0 ∷ getD (r .machine .regs) 3 0 ∷ []))
     4
     (getD (r .machine .regs) 4 0 ∷ getD (r .machine .regs) 5 0 ∷ getD (r .machine .regs) 6 0 ∷ getD (r .machine .regs) 7 0 ∷ []))
     8
-    (r .machine .eip ∷ r .machine .word ∷ r .steps ∷ r .address ∷ [])
+    (restOf (r .machine) (r .steps) (r .address))
     ≡ stateOf r
 unfolding stateOf
 handed state r e = sets-whole (stateOf r) state e
 
 module _ (state : List ℕ) (fixed : Fixed) (d : List ℕ) (budget : ℕ) where
   -- a state of another length: 90, and nothing is changed
-  pub misfit-changes-nothing : (length state ≡ 12 → ⊥) → callOf state fixed d budget ≡ record { number = misfit; state = state; area = d }
+  pub misfit-changes-nothing : (length state ≡ 20 → ⊥) → callOf state fixed d budget ≡ record { number = misfit; state = state; area = d }
   unfolding callOf
   misfit-changes-nothing wrong = rw (ne-eqb _ _ wrong)
 
   -- so a call returns
-  pub calls-misfit : (length state ≡ 12 → ⊥) → Calls (callOf state fixed d budget) 90 state d
+  pub calls-misfit : (length state ≡ 20 → ⊥) → Calls (callOf state fixed d budget) 90 state d
   unfolding misfit
   calls-misfit wrong = rw (misfit-changes-nothing wrong) (record { is = refl; state-left = refl; area-left = refl })
 
   -- the run's number, with the state written whole
-  pub calls-run : length state ≡ 12 → {l : Lent} {r : Ran} {later after : List ℕ} → l ≡ lentOf state → Runs (runOf fixed l d budget) r after
+  pub calls-run : length state ≡ 20 → {l : Lent} {r : Ran} {later after : List ℕ} → l ≡ lentOf state → Runs (runOf fixed l d budget) r after
       → later ≡ stateOf r
       → Calls (callOf state fixed d budget) (r .number) later after
   unfolding callOf called

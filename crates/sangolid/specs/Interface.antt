@@ -5,6 +5,8 @@ use mathlib.Core.List.{List, [], _∷_}
 use Prim.Native.Nat.{ℕ, min}
 use lib.Dec.{eqb}
 use lib.ListN.{length, getD}
+use Rattle.scalar.specs.declared.Xmm.{Xmm}
+use Rattle.machine.specs.Registers.{bitsIn}
 use Rattle.run.specs.declared.Lent.{Lent}
 use Rattle.run.specs.declared.Ran.{Ran}
 use Rattle.run.specs.Steps.{Fixed}
@@ -16,14 +18,36 @@ use Rattle.hex.specs.Files.{Outcome}
 unfoldable pub misfit : ℕ
 misfit = 90
 
--- the machine in a state: EAX ECX EDX EBX ESP EBP ESI EDI, EIP, flags word
+-- a single by its bits
+abbrev pub xmm : ℕ → Xmm
+xmm n = record { bits = n }
+
+-- the machine in a state: EAX ECX EDX EBX ESP EBP ESI EDI, EIP, flags word, XMM0 to XMM7 by their bits
 unfoldable pub lentOf : List ℕ → Lent
 lentOf state =
     record {
       regs = getD state 0 0 ∷ getD state 1 0 ∷ getD state 2 0 ∷ getD state 3 0 ∷ getD state 4 0 ∷ getD state 5 0 ∷ getD state 6 0 ∷ getD state 7 0 ∷ [];
+      xmm = xmm (getD state 10 0) ∷ xmm (getD state 11 0) ∷ xmm (getD state 12 0) ∷ xmm (getD state 13 0) ∷ xmm (getD state 14 0) ∷ xmm (getD state 15 0) ∷ xmm (getD state 16 0) ∷ xmm (getD state 17 0) ∷ [];
       eip = getD state 8 0;
       word = getD state 9 0;
     }
+
+-- EIP, flags word and XMM0 to XMM7 in the same places, then the steps and the address
+abbrev pub restOf : Lent → ℕ → ℕ → List ℕ
+restOf m steps address =
+    m .eip
+    ∷ m .word
+    ∷ bitsIn (m .xmm) 0
+    ∷ bitsIn (m .xmm) 1
+    ∷ bitsIn (m .xmm) 2
+    ∷ bitsIn (m .xmm) 3
+    ∷ bitsIn (m .xmm) 4
+    ∷ bitsIn (m .xmm) 5
+    ∷ bitsIn (m .xmm) 6
+    ∷ bitsIn (m .xmm) 7
+    ∷ steps
+    ∷ address
+    ∷ []
 
 -- the state after a run: the machine in the same places, then the steps and the address
 unfoldable pub stateOf : Ran → List ℕ
@@ -36,11 +60,7 @@ stateOf r =
     ∷ getD (r .machine .regs) 5 0
     ∷ getD (r .machine .regs) 6 0
     ∷ getD (r .machine .regs) 7 0
-    ∷ r .machine .eip
-    ∷ r .machine .word
-    ∷ r .steps
-    ∷ r .address
-    ∷ []
+    ∷ restOf (r .machine) (r .steps) (r .address)
 
 -- what a call of a run comes to
 pub record Call : Type 0 where
@@ -52,10 +72,10 @@ pub record Call : Type 0 where
 unfoldable pub called : HandedBack → Call
 called o = record { number = o .ran .number; state = stateOf (o .ran); area = o .area }
 
--- a call with a state of 12 words runs the block; any other changes nothing
+-- a call with a state of 20 words runs the block; any other changes nothing
 unfoldable pub callOf : List ℕ → Fixed → List ℕ → ℕ → Call
 callOf state fixed d budget =
-    cond (eqb (length state) 12) (called (runOf fixed (lentOf state) d budget))
+    cond (eqb (length state) 20) (called (runOf fixed (lentOf state) d budget))
     (record { number = misfit; state = state; area = d })
 
 -- the number returned, the state and the data after are what the call comes to

@@ -9,10 +9,10 @@ use Rattle.sangolid.specs.Interface.{Call, callOf}
 unfoldable pub again : Call → Fixed → ℕ → Call
 again left fixed budget = callOf (left .state) fixed (left .area) budget
 
--- the whole leaves the machine's ten words, the address and the data that the second leaves, and returns its number; the steps are those of both
+-- the whole leaves the machine's eighteen words, the address and the data that the second leaves, and returns its number; the steps are those of both
 pub record Continues (first second whole : Call) : Type 0 where
-  pub machine : take 10 (whole .state) ≡ take 10 (second .state)
-  pub steps : getD (whole .state) 10 0 ≡ getD (first .state) 10 0 + getD (second .state) 10 0
-  pub address : getD (whole .state) 11 0 ≡ getD (second .state) 11 0
+  pub machine : take 18 (whole .state) ≡ take 18 (second .state)
+  pub steps : getD (whole .state) 18 0 ≡ getD (first .state) 18 0 + getD (second .state) 18 0
+  pub address : getD (whole .state) 19 0 ≡ getD (second .state) 19 0
   pub area : whole .area ≡ second .area
   pub number : whole .number ≡ second .number

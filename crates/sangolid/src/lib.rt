@@ -2,6 +2,7 @@
 use blockcheck::Verdict;
 use run::Lent;
 use run::Ran;
+use scalar::Xmm;
 ghost use mathlib.Core.Path.{_≡_};
 ghost use mathlib.Core.List.{[], _∷_};
 ghost use Prim.Native.Nat.{_+_, _<_, _≤_, _^_};
@@ -9,11 +10,11 @@ ghost use lib.ListN.{length};
 ghost use lib.Seq.{sets};
 ghost use Rattle.blockcheck.specs.Blocks.{numberOf, valueOf};
 ghost use Rattle.run.specs.Steps.{fixedTo};
-ghost use Rattle.sangolid.specs.Interface.{lentOf, stateOf, callOf, Calls, Checks, wordOf, Unhexes};
+ghost use Rattle.sangolid.specs.Interface.{lentOf, restOf, stateOf, callOf, Calls, Checks, wordOf, Unhexes};
 
-// The machine in the first ten words of the state.
+// The machine in the first eighteen words of the state.
 fn lent(state: &[u32]) -> Lent
-    requires { ⌜ length (now state) ≡ 12 ⌝ }
+    requires { ⌜ length (now state) ≡ 20 ⌝ }
     ensures { λ r. ⌜ r ≡ lentOf (now (state .entry)) ⌝ }
 {
     let regs = [
@@ -26,8 +27,19 @@ fn lent(state: &[u32]) -> Lent
         state[6],
         state[7],
     ];
+    let xmm = [
+        Xmm { bits: state[10] },
+        Xmm { bits: state[11] },
+        Xmm { bits: state[12] },
+        Xmm { bits: state[13] },
+        Xmm { bits: state[14] },
+        Xmm { bits: state[15] },
+        Xmm { bits: state[16] },
+        Xmm { bits: state[17] },
+    ];
     Lent {
         regs,
+        xmm,
         eip: state[8],
         word: state[9],
     }
@@ -44,9 +56,27 @@ fn put_four(state: &mut [u32], at: usize, a: u32, b: u32, c: u32, d: u32)
     state[at + 3] = d;
 }
 
+// Puts the machine's last ten words, steps and address into the state: EIP, flags word, XMM0 to XMM7.
+fn put_rest(state: &mut [u32], m: Lent, steps: u32, address: u32)
+    requires { ⌜ length (now state) ≡ 20 ⌝ }
+    ensures { λ _. ⌜ now (state .exit) ≡ sets (now (state .entry)) 8 (restOf m steps address) ⌝ }
+{
+    let xmm = m.xmm;
+    put_four(state, 8, m.eip, m.word, xmm[0].bits, xmm[1].bits);
+    put_four(
+        state,
+        12,
+        xmm[2].bits,
+        xmm[3].bits,
+        xmm[4].bits,
+        xmm[5].bits,
+    );
+    put_four(state, 16, xmm[6].bits, xmm[7].bits, steps, address);
+}
+
 // Puts what a run gives back into the state, but for its number.
 fn hand_back(state: &mut [u32], ran: Ran)
-    requires { ⌜ length (now state) ≡ 12 ⌝ }
+    requires { ⌜ length (now state) ≡ 20 ⌝ }
     requires { ⌜ ran .steps < 2 ^ 32 ⌝ }
     ensures { λ _. ⌜ now (state .exit) ≡ stateOf ran ⌝ }
 {
@@ -54,7 +84,7 @@ fn hand_back(state: &mut [u32], ran: Ran)
     let regs = m.regs;
     put_four(state, 0, regs[0], regs[1], regs[2], regs[3]);
     put_four(state, 4, regs[4], regs[5], regs[6], regs[7]);
-    put_four(state, 8, m.eip, m.word, ran.steps as u32, ran.address);
+    put_rest(state, m, ran.steps as u32, ran.address);
 }
 
 // Runs the block from the state, over the lent constants and data, and puts what comes back into the state.
@@ -68,7 +98,7 @@ pub extern "C" fn sangolid_run(
 ) -> u32
     ensures { λ r. ⌜ Calls (callOf (now (state .entry)) (fixedTo (now (code .entry)) (now (constants .entry))) (now (area .entry)) budget) r (now (state .exit)) (now (area .exit)) ⌝ }
 {
-    if state.len() != 12 {
+    if state.len() != 20 {
         return 90;
     }
     let ran = run::run(lent(state), code, constants, area, budget);

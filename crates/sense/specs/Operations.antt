@@ -9,6 +9,7 @@ use Rattle.shift.specs.declared.Shift.{Shift}
 use Rattle.bits.specs.declared.BitTest.{BitTest}
 use Rattle.bits.specs.declared.Scan.{Scan}
 use Rattle.bits.specs.declared.DoubleShift.{DoubleShift}
+use Rattle.scalar.specs.declared.Compute.{Compute}
 use Rattle.sense.specs.declared.Kind.{Kind}
 use Rattle.sense.specs.declared.Arithmetic.{Arithmetic}
 use Rattle.sense.specs.declared.Move.{Move}
@@ -17,6 +18,7 @@ use Rattle.sense.specs.declared.Stack.{Stack}
 use Rattle.sense.specs.declared.Branch.{Branch}
 use Rattle.sense.specs.declared.Strings.{Strings}
 use Rattle.sense.specs.declared.Bits.{Bits}
+use Rattle.sense.specs.declared.Singles.{Singles}
 use Rattle.sense.specs.declared.Operation.{Operation}
 
 -- ADD OR ADC SBB AND SUB XOR, by three bits
@@ -69,6 +71,14 @@ bitTestWords = BitTest.Bt ∷ BitTest.Bts ∷ BitTest.Btr ∷ []
 -- and BTC from there on, /7
 unfoldable pub bitTestAt : ℕ → BitTest
 bitTestAt n = getD bitTestWords n BitTest.Btc
+
+-- F3 0F 58, 59, 5C to 5F, by the opcode's last three bits: ADDSS is 0, MULSS 1, SUBSS MINSS DIVSS are 4 to 6; no instruction has 2 or 3
+abbrev pub computeWords : List Compute
+computeWords = Compute.Add ∷ Compute.Mul ∷ Compute.Mul ∷ Compute.Mul ∷ Compute.Sub ∷ Compute.Min ∷ Compute.Div ∷ []
+
+-- and MAXSS is 7
+unfoldable pub computeAt : ℕ → Compute
+computeAt n = getD computeWords n Compute.Max
 
 -- the operation of a kind, with the opcode and the ModR/M byte's reg field
 unfoldable pub operationOf : Kind → ℕ → ℕ → Operation
@@ -123,3 +133,6 @@ operationOf Kind.Bsf opcode field = Operation.Arithmetic (Arithmetic.Bits (Bits.
 operationOf Kind.Bsr opcode field = Operation.Arithmetic (Arithmetic.Bits (Bits.Scan Scan.Bsr))
 operationOf Kind.Shld opcode field = Operation.Arithmetic (Arithmetic.Bits (Bits.Double DoubleShift.Shld))
 operationOf Kind.Shrd opcode field = Operation.Arithmetic (Arithmetic.Bits (Bits.Double DoubleShift.Shrd))
+operationOf Kind.MoveSingle opcode field = Operation.Singles Singles.Move
+operationOf Kind.ComputeSingle opcode field = Operation.Singles (Singles.Compute (computeAt (opcode % 8)))
+operationOf Kind.CompareSingle opcode field = Operation.Singles Singles.Compare

@@ -72,6 +72,9 @@ senses =
     ∷ at 0x1BC (wide Kind.Bsf Reg Rm) ∷ at 0x1BD (wide Kind.Bsr Reg Rm)
     ∷ at 0x1A4 (three Kind.Shld Rm Reg Immediate) ∷ at 0x1A5 (three Kind.Shld Rm Reg Cl)
     ∷ at 0x1AC (three Kind.Shrd Rm Reg Immediate) ∷ at 0x1AD (three Kind.Shrd Rm Reg Cl)
+    ∷ at 0x110 (wide Kind.MoveSingle Reg Rm) ∷ at 0x111 (wide Kind.MoveSingle Rm Reg)
+    ∷ at 0x158 (wide Kind.ComputeSingle Reg Rm) ∷ at 0x159 (wide Kind.ComputeSingle Reg Rm) ∷ from 0x15C 0x15F (wide Kind.ComputeSingle Reg Rm)
+    ∷ at 0x12F (wide Kind.CompareSingle Reg Rm)
     ∷ []
 
 -- what an opcode means; one that is not listed would move nothing to nowhere

@@ -15,11 +15,11 @@ kindWords =
     ∷ Kind.MovZeroByte ∷ Kind.MovZeroWord ∷ Kind.MovSignByte ∷ Kind.MovSignWord ∷ Kind.Lea ∷ Kind.Xchg ∷ Kind.Convert ∷ Kind.Spread ∷ Kind.Bswap ∷ Kind.Set ∷ Kind.Lahf
     ∷ Kind.Sahf ∷ Kind.Cmc ∷ Kind.Clc ∷ Kind.Stc ∷ Kind.Cld ∷ Kind.Std ∷ Kind.Push ∷ Kind.Pop ∷ Kind.Leave ∷ Kind.Call ∷ Kind.Return
     ∷ Kind.Jump ∷ Kind.JumpIf ∷ Kind.Loopne ∷ Kind.Loope ∷ Kind.Loop ∷ Kind.Jecxz ∷ Kind.Movs ∷ Kind.Cmps ∷ Kind.Stos ∷ Kind.Lods ∷ Kind.Scas
-    ∷ Kind.MovIf ∷ Kind.BitTest ∷ Kind.BitTestGroup ∷ Kind.Bsf ∷ Kind.Bsr ∷ Kind.Shld ∷ []
+    ∷ Kind.MovIf ∷ Kind.BitTest ∷ Kind.BitTestGroup ∷ Kind.Bsf ∷ Kind.Bsr ∷ Kind.Shld ∷ Kind.Shrd ∷ Kind.MoveSingle ∷ Kind.ComputeSingle ∷ []
 
 -- and the last kind from there on
 abbrev pub kindAt : ℕ → Kind
-kindAt number = getD kindWords number Kind.Shrd
+kindAt number = getD kindWords number Kind.CompareSingle
 
 -- the places by their digits
 abbrev pub placeWords : List Place

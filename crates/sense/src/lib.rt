@@ -8,6 +8,7 @@ use arith::Single;
 use bits::BitTest;
 use bits::DoubleShift;
 use bits::Scan;
+use scalar::Compute;
 use shift::Shift;
 use width::Size;
 
@@ -93,6 +94,13 @@ pub enum Strings {
     Scas,
 }
 
+// Operations on the singles of XMM registers.
+pub enum Singles {
+    Move,
+    Compute(Compute),
+    Compare,
+}
+
 pub enum Operation {
     Arithmetic(Arithmetic),
     Move(Move),
@@ -100,6 +108,7 @@ pub enum Operation {
     Stack(Stack),
     Branch(Branch),
     Strings(Strings),
+    Singles(Singles),
 }
 
 // Where an operand is.
@@ -177,6 +186,9 @@ pub enum Kind {
     Bsr,
     Shld,
     Shrd,
+    MoveSingle,
+    ComputeSingle,
+    CompareSingle,
 }
 
 // What an opcode means. `byte`: its operands are bytes; else words under 66, and doublewords without.

@@ -117,6 +117,10 @@ pub const BSF: u16 = 47_000 + REG_RM;
 
 pub const BSR: u16 = 48_000 + REG_RM;
 
+pub const COMPUTE_SINGLE_REG_RM: u16 = 52_000 + REG_RM;
+
+pub const COMPARE_SINGLE_REG_RM: u16 = 53_000 + REG_RM;
+
 // ADD to CMP, by three bits of the opcode.
 const ALU: u16 = 0;
 
@@ -281,3 +285,10 @@ const SHRD: u16 = 50_000;
 pub const SHRD_RM_REG_IMM: u16 = SHRD + RM_REG_IMM;
 
 pub const SHRD_RM_REG_CL: u16 = SHRD + RM_REG_CL;
+
+// MOVSS.
+const MOVE_SINGLE: u16 = 51_000;
+
+pub const MOVE_SINGLE_REG_RM: u16 = MOVE_SINGLE + REG_RM;
+
+pub const MOVE_SINGLE_RM_REG: u16 = MOVE_SINGLE + RM_REG;

@@ -6,6 +6,7 @@ use crate::Flagging;
 use crate::Kind;
 use crate::Move;
 use crate::Operation;
+use crate::Singles;
 use crate::Stack;
 use crate::Strings;
 use arith::Binary;
@@ -13,10 +14,11 @@ use arith::Single;
 use bits::BitTest;
 use bits::DoubleShift;
 use bits::Scan;
+use scalar::Compute;
 use shift::Shift;
 use width::Size;
 ghost use mathlib.Core.Path.{_≡_};
-ghost use Rattle.sense.specs.Operations.{binaryAt, shiftAt, productAt, incDecAt, lastAt, bitTestAt, operationOf};
+ghost use Rattle.sense.specs.Operations.{binaryAt, shiftAt, productAt, incDecAt, lastAt, bitTestAt, computeAt, operationOf};
 
 // By three bits of the opcode, or the reg field.
 fn binary_at(number: u32) -> Binary
@@ -102,6 +104,22 @@ fn bit_test_at(number: u32) -> BitTest
     }
 }
 
+// By the opcode's last three bits.
+fn compute_at(number: u32) -> Compute
+    ensures { λ r. ⌜ r ≡ computeAt number ⌝ }
+{
+    match number {
+        0 => Compute::Add,
+        1 => Compute::Mul,
+        2 => Compute::Mul,
+        3 => Compute::Mul,
+        4 => Compute::Sub,
+        5 => Compute::Min,
+        6 => Compute::Div,
+        _ => Compute::Max,
+    }
+}
+
 // The operation of a kind, with the opcode and the ModR/M byte's reg field.
 pub fn operation(kind: Kind, opcode: usize, field: u32) -> Operation
     ensures { λ r. ⌜ r ≡ operationOf kind opcode field ⌝ }
@@ -162,5 +180,10 @@ pub fn operation(kind: Kind, opcode: usize, field: u32) -> Operation
         Kind::Bsr => Operation::Arithmetic(Arithmetic::Bits(Bits::Scan(Scan::Bsr))),
         Kind::Shld => Operation::Arithmetic(Arithmetic::Bits(Bits::Double(DoubleShift::Shld))),
         Kind::Shrd => Operation::Arithmetic(Arithmetic::Bits(Bits::Double(DoubleShift::Shrd))),
+        Kind::MoveSingle => Operation::Singles(Singles::Move),
+        Kind::ComputeSingle => Operation::Singles(Singles::Compute(compute_at(
+            (opcode % 8) as u32,
+        ))),
+        Kind::CompareSingle => Operation::Singles(Singles::Compare),
     }
 }

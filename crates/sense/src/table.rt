@@ -118,6 +118,11 @@ fn row_entry(row: u8) -> u16
         rows::SHLD_RM_REG_CL => meaning::SHLD_RM_REG_CL,
         rows::SHRD_RM_REG_IMM => meaning::SHRD_RM_REG_IMM,
         rows::SHRD_RM_REG_CL => meaning::SHRD_RM_REG_CL,
+        // M-106: F3 0F 10, 11; F3 0F 58, 59, 5C-5F; 0F 2F: all with ModR/M.
+        rows::MOVE_SINGLE_REG_RM => meaning::MOVE_SINGLE_REG_RM,
+        rows::MOVE_SINGLE_RM_REG => meaning::MOVE_SINGLE_RM_REG,
+        rows::COMPUTE_SINGLE_REG_RM => meaning::COMPUTE_SINGLE_REG_RM,
+        rows::COMPARE_SINGLE_REG_RM => meaning::COMPARE_SINGLE_REG_RM,
         _ => meaning::MOV,
     }
 }
@@ -184,7 +189,10 @@ fn kind_of(number: u16) -> Kind
         47 => Kind::Bsf,
         48 => Kind::Bsr,
         49 => Kind::Shld,
-        _ => Kind::Shrd,
+        50 => Kind::Shrd,
+        51 => Kind::MoveSingle,
+        52 => Kind::ComputeSingle,
+        _ => Kind::CompareSingle,
     }
 }
 

@@ -24,12 +24,12 @@ use Rattle.product.proofs.Regardless as Products
 use Rattle.machine.specs.declared.registers.Machine.{Machine}
 use Rattle.machine.specs.declared.memory.Stored.{Stored}
 use Rattle.machine.specs.declared.memory.Stored.the-variants.{Done}
-use Rattle.machine.specs.Registers.{register, withRegister, withEip, withFlags, part, withPart}
+use Rattle.machine.specs.Registers.{register, withRegister, withEip, withFlags, withXmm, withSingle, part, withPart}
 use Rattle.sense.specs.declared.Bits.{Bits}
 use Rattle.sense.specs.declared.Arithmetic.{Arithmetic}
 use Rattle.plan.specs.declared.Plan.{Plan}
 use Rattle.effect.specs.declared.outcome.Outcome.{Outcome}
-use Rattle.effect.specs.declared.outcome.Outcome.the-variants.{Becomes, Writes, Faults}
+use Rattle.effect.specs.declared.outcome.Outcome.the-variants.{Becomes, Writes, Sets, Faults}
 use Rattle.effect.specs.Outcomes.{Effect, Computed}
 use Rattle.effect.specs.Words.{becomes, faults, onward, value}
 use Rattle.effect.specs.Bits.{bitTested, scanned, doubleShifted, bitsComputed}
@@ -91,9 +91,10 @@ module _ (m : Machine) (g : Flags) (p : Plan) (a : ℕ) (d : List ℕ) where
 
   by-outcome : (us : List Flag) (o : Outcome) (e : Effect) → without us (e .machine .flags) ≡ e .machine .flags
       → Settled us (committed o e m d) (committed o e (withFlags m g) d)
-  unfolding withFlags committed
+  unfolding withFlags withXmm withSingle committed
   by-outcome us Becomes e h = moves h
   by-outcome us Writes e h = by-write us _ e h
+  by-outcome us Sets e h = moves h
   by-outcome us Faults e h = stops
 
   by-effect : (us : List Flag) (e e′ : Effect) → e′ ≡ e → without us (e .machine .flags) ≡ e .machine .flags

@@ -109,6 +109,7 @@ module _ (constants : List ℕ) (p : Plan) (m : Machine) (g : Flags) (d : List �
   planned-settled (Operation.Stack op) e h = unflagged (none-left constants p m d _ e (λ r. refl)) h
   planned-settled (Operation.Branch op) e h = unflagged (none-left constants p m d _ e (λ r. refl)) h
   planned-settled (Operation.Strings op) e h = unflagged (none-left constants p m d _ e (λ r. refl)) h
+  planned-settled (Operation.Singles op) e h = unflagged (none-left constants p m d _ e (λ r. refl)) h
 
 -- what is found at EIP
 executed-settled : (fixed : Fixed) (f : Found) (m : Machine) (g : Flags) (d : List ℕ) → DifferOnlyIn (foundUndefined fixed f m d) (m .flags) g
@@ -124,9 +125,9 @@ either us true p q = p
 either us false p q = q
 
 -- the machine with the other's flags
-with-others : (m m′ : Machine) → m′ .regs ≡ m .regs → m′ .eip ≡ m .eip → m′ ≡ withFlags m (m′ .flags)
+with-others : (m m′ : Machine) → m′ .regs ≡ m .regs → m′ .xmm ≡ m .xmm → m′ .eip ≡ m .eip → m′ ≡ withFlags m (m′ .flags)
 unfolding withFlags
-with-others m m′ regs eip = rw (sym regs, sym eip)
+with-others m m′ regs xmm eip = rw (sym regs, sym xmm, sym eip)
 
 -- a step of two machines that differ only in flags that 003 leaves undefined after it
 step-settled : (fixed : Fixed) (m m′ : Machine) (d : List ℕ) → Alike (stepUndefined fixed m d) m m′
@@ -134,7 +135,7 @@ step-settled : (fixed : Fixed) (m m′ : Machine) (d : List ℕ) → Alike (step
 unfolding withFlags stepUndefined stepOf
 step-settled fixed m m′ d h =
     let us = stepUndefined fixed m d in
-    rw (with-others m m′ (h .regs) (h .eip))
+    rw (with-others m m′ (h .regs) (h .xmm) (h .eip))
     (either us (eqb (m .eip) home) stops
     (either us (inside (fixed .code) (m .eip)) (executed-settled fixed (decodeOf (fixed .code) (m .eip - codeBase)) m (m′ .flags) d (h .flags)) stops))
 
@@ -152,7 +153,7 @@ pub step-clears : (fixed : Fixed) (m m′ : Machine) (d d′ : List ℕ) → ste
     → without (stepUndefined fixed m d) (m′ .flags) ≡ m′ .flags
 unfolding DifferOnlyIn
 step-clears fixed m m′ d d′ goes =
-    clear (rw goes at (step-settled fixed m m d (record { regs = refl; eip = refl; flags = refl })))
+    clear (rw goes at (step-settled fixed m m d (record { regs = refl; xmm = refl; eip = refl; flags = refl })))
   where
     clear : {us : List Flag} → Settled us (next m′ d′) (next m′ d′) → without us (m′ .flags) ≡ m′ .flags
     clear (moves h) = h

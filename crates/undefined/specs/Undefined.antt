@@ -56,6 +56,7 @@ undefinedBy (Operation.Flagging op) m p r = []
 undefinedBy (Operation.Stack op) m p r = []
 undefinedBy (Operation.Branch op) m p r = []
 undefinedBy (Operation.Strings op) m p r = []
+undefinedBy (Operation.Singles op) m p r = []
 
 -- what a read that is allowed gives
 unfoldable pub given : Loaded → ℕ
@@ -86,5 +87,6 @@ stepUndefined fixed m d = foundUndefined fixed (decodeOf (fixed .code) (m .eip -
 -- two machines differ only in flags of a list
 pub record Alike (us : List Flag) (m m′ : Machine) : Type 0 where
   pub regs : m′ .regs ≡ m .regs
+  pub xmm : m′ .xmm ≡ m .xmm
   pub eip : m′ .eip ≡ m .eip
   pub flags : DifferOnlyIn us (m .flags) (m′ .flags)

@@ -1,4 +1,4 @@
-//! Checks the partner beside Unicorn on random single instructions, undefined flags masked.
+//! Checks the partner beside Unicorn on random single instructions but those with singles, undefined flags masked.
 
 use std::cell::UnsafeCell;
 use std::collections::BTreeMap;
@@ -6,7 +6,7 @@ use std::ffi::{c_int, c_void};
 use std::process::ExitCode;
 
 use partner::cases::{Generator, RunCase, Size};
-use partner::decode::Operand;
+use partner::decode::{decode, Operand, Operation};
 use partner::machine::{Machine, Width, CODE_BASE, CONSTANTS_BASE, DATA_BASE, KNOWN};
 use partner::step::{effective_address, execute, fetch, Stop};
 use partner::text::{describe, form, hex, machine_text};
@@ -146,7 +146,8 @@ impl Engine {
         for (register, word) in regs.iter_mut().zip(back) {
             *register = word as u32;
         }
-        Result { end, machine: Machine { regs, eip: back[8] as u32, flags: back[9] as u32 & KNOWN }, data }
+        let (eip, flags) = (back[8] as u32, back[9] as u32 & KNOWN);
+        Result { end, machine: Machine { regs, eip, flags, singles: case.machine.singles }, data }
     }
 }
 
@@ -229,9 +230,20 @@ fn with_destination(theirs: &Result, ours: &Result, case: &RunCase, destination:
             let place = start..start + width.bytes() as usize;
             theirs.data[place.clone()].copy_from_slice(&ours.data[place]);
         }
-        Operand::Immediate(_) => {}
+        Operand::Xmm(_) | Operand::Immediate(_) => {}
     }
     theirs
+}
+
+/// An instruction alone in its code that has no single.
+fn without_singles(generator: &mut Generator) -> RunCase {
+    loop {
+        let case = generator.alone(DATA_BYTES);
+        let operation = decode(&case.code).expect("the code is an instruction").operation;
+        if !matches!(operation, Operation::Movss(..) | Operation::Single(..) | Operation::Comiss(..)) {
+            return case;
+        }
+    }
 }
 
 /// Indexes and values where two data areas differ.
@@ -253,7 +265,7 @@ fn main() -> ExitCode {
         let mut code = vec![RET; CODE_BYTES];
         let cases: Vec<RunCase> = (0..CODE_BYTES / SLOT)
             .map(|slot| {
-                let mut case = generator.alone(DATA_BYTES);
+                let mut case = without_singles(&mut generator);
                 code[slot * SLOT..][..case.code.len()].copy_from_slice(&case.code);
                 case.machine.eip = CODE_BASE + (slot * SLOT) as u32;
                 case

@@ -108,7 +108,8 @@ fn operand_kind(operation: Operation) -> Kind {
         Operation::Alu(_, Operand::Memory(_), _) | Operation::Xchg(..) | Operation::BitTest(..) => Kind::Change,
         Operation::Inc(_) | Operation::Dec(_) | Operation::Not(_) | Operation::Neg(_) => Kind::Change,
         Operation::Shift(..) | Operation::DoubleShift(..) => Kind::Change,
-        Operation::Mov(Operand::Memory(_), _) | Operation::Setcc(..) => Kind::Write,
+        Operation::Mov(Operand::Memory(_), _) | Operation::Movss(Operand::Memory(_), _) => Kind::Write,
+        Operation::Setcc(..) => Kind::Write,
         Operation::Call(_) | Operation::Jmp(_) => Kind::Target,
         _ => Kind::Read,
     }

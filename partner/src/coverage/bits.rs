@@ -44,6 +44,11 @@ impl Grid {
     pub(super) fn place(&self, places: &[usize]) -> usize {
         self.axes.iter().zip(places).fold(0, |place, (axis, at)| place * axis.len() + at)
     }
+
+    /// Whether the combination with these places on the axes never came.
+    pub(super) fn is_new(&self, places: &[usize]) -> bool {
+        self.group.shapes[self.place(places)].1 == 0
+    }
 }
 
 /// The groups, in the order in which they are shown.
@@ -163,10 +168,7 @@ impl Bits {
 
     /// Whether the instruction has a shape that never came.
     pub(super) fn is_new(&self, seen: &Seen) -> bool {
-        shapes(seen).into_iter().any(|(kind, places)| {
-            let grid = &self.grids[kind as usize];
-            grid.group.shapes[grid.place(&places)].1 == 0
-        })
+        shapes(seen).into_iter().any(|(kind, places)| self.grids[kind as usize].is_new(&places))
     }
 
     /// The groups of shapes.

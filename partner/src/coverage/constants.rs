@@ -10,7 +10,7 @@ use crate::run::{refusals, Seen, REFUSALS};
 
 /// Which area holds an access.
 #[derive(Clone, Copy, PartialEq, Eq)]
-enum Holder {
+pub(super) enum Holder {
     Data,
     Constants,
     Neither,
@@ -47,7 +47,7 @@ const LENGTHS: [&str; 8] = ["none", "1", "2 or 3", "4 to 65,534", "65,535", "65,
 
 impl Access {
     /// The area that holds it.
-    fn holder(&self, seen: &Seen) -> Holder {
+    pub(super) fn holder(&self, seen: &Seen) -> Holder {
         if self.is_in(DATA_BASE, seen.data) {
             Holder::Data
         } else if self.is_in(CONSTANTS_BASE, seen.constants) {

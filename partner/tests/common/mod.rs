@@ -1,7 +1,7 @@
 //! A program with Sangolid's C interface around steps of its own.
 
 use partner::check::check;
-use partner::compare::{Other, ANSWER_WORDS, STATE_WORDS, WRONG_AREA};
+use partner::compare::{machine_in, state_words, Other, ANSWER_WORDS, STATE_WORDS, WRONG_AREA};
 use partner::hex::read;
 use partner::machine::Machine;
 use partner::run::refusals;
@@ -17,15 +17,12 @@ impl<F: Fn(Machine, &[u8], &[u8], &mut [u8], u64) -> Ended> Other for Program<F>
         if state.len() != STATE_WORDS {
             return WRONG_AREA;
         }
-        let mut regs = [0; 8];
-        regs.copy_from_slice(&state[..8]);
-        let machine = Machine { regs, eip: state[8], flags: state[9] };
+        let machine = machine_in(state);
         let (machine, steps, number, address) = match refusals(&machine, code, constants, area, budget)[..] {
             [] => (self.0)(machine, code, constants, area, budget),
             [first, ..] => (machine, 0, first, 0),
         };
-        state[..8].copy_from_slice(&machine.regs);
-        state[8..].copy_from_slice(&[machine.eip, machine.flags, steps as u32, address]);
+        state.copy_from_slice(&state_words(&machine, steps as u32, address));
         number
     }
 

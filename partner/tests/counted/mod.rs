@@ -18,7 +18,7 @@ pub fn case(code: &[u8], registers: &[(usize, u32)], constants: usize, data: usi
     for &(number, value) in registers {
         regs[number] = value;
     }
-    let machine = Machine { regs, eip: CODE_BASE, flags: ALWAYS };
+    let machine = Machine { regs, eip: CODE_BASE, flags: ALWAYS, singles: [0; 8] };
     RunCase { machine, code: code.to_vec(), constants: vec![1; constants], data: vec![2; data], budget: 1 }
 }
 

@@ -4,7 +4,8 @@ use mathlib.Core.Logic.{⊎-elim}
 use Prim.Native.Nat.{_-_, _%_, _<_}
 use native.Mathlib.Omega.{arith}
 use borrow.Author.Needs.{needs}
-use Rattle.effect.specs.Changes.{held, applied}
+use Rattle.machine.specs.Lending.{xmmOf}
+use Rattle.effect.specs.Changes.{lent}
 use Rattle.run.proofs.Going.{went, Going, begins, goes, ends-stopped, ends-used}
 use Rattle.run.proofs.Sites.{Keeping, none-kept, taken, fresh, known}
 use Rattle.run.proofs.steps.Statement.{statement}
@@ -13,51 +14,50 @@ use Rattle.run.specs.Steps.{fixedTo}
 use Rattle.run.specs.Runs.{opened}
 
 abbrev Inv-loop : tie.InvT-loop
-Inv-loop code constants area₀ budget kept₀ regs₀ eip₀ word₀ n₀ area kept regs eip word n =
-    Going (fixedTo code constants) area₀ budget (held regs₀ eip₀ word₀) area (held regs eip word) n × Keeping code kept
+Inv-loop code constants area₀ budget kept₀ regs₀ xmm₀ eip₀ word₀ n₀ area kept regs xmm eip word n =
+    Going (fixedTo code constants) area₀ budget (lent regs₀ xmm₀ eip₀ word₀) area (lent regs xmm eip word) n × Keeping code kept
 
 abbrev μ-loop : tie.MeasureT-loop
-μ-loop code constants area₀ budget kept₀ regs₀ eip₀ word₀ n₀ area kept regs eip word n = budget - n
+μ-loop code constants area₀ budget kept₀ regs₀ xmm₀ eip₀ word₀ n₀ area kept regs xmm eip word n = budget - n
 
 loop-holds : tie.Need-loop-holds Inv-loop μ-loop
-loop-holds c = (begins _ _ _ _, none-kept _ (c .before .stopping .ensures))
+loop-holds c = (begins _ _ _ _, none-kept _ (c .before .before .before .stopping .ensures))
 
 same-length : tie.Need-same-length Inv-loop μ-loop
-same-length c = c .before .before .before .before .before .before .take .kept .1 .1 .1 .1 .1 .0 ∙ c .before .before .before .before .before .before .before .before .before .before .before .before .before .before .loop .inv .0 .long
+same-length c = c .before .before .before .before .before .before .take .kept .1 .1 .1 .1 .1 .1 .0 ∙ c .before .before .before .before .before .before .before .before .before .before .before .before .before .before .before .loop .inv .0 .long
 
 returns : tie.Need-returns Inv-loop μ-loop
 unfolding opened
 returns c =
-    let slot : c .before .before .before .before .before .before .before .before .before .before .before .before .before .before .loop .eip % 64 < 64 = omega arith in
-    let ready =
-    ⊎-elim
-    (λ made. fresh (c .before .before .before .before .before .before .before .before .before .before .before .before .before .before .loop .inv .1) slot (made .1 .ensures) (made .2))
-    (λ there. known (c .before .before .before .before .before .before .before .before .before .before .before .before .before .before .loop .inv .1) slot (c .before .before .before .before .before .before .before .before .before .before .before .is-for .ensures) (there .0 .left) (there .1))
-    (c .before .before .before .before .before .before .before .before .before .before .if1 .came)
-    in
-    rw (c .«open» .ensures)
-    (ends-stopped _ _ _ _ (c .before .before .before .before .before .before .before .before .before .before .before .before .before .before .loop .inv .0) (c .before .before .before .before .before .before .before .before .before .before .before .before .before .loop-test .taken)
-    (rw (c .before .before .number .given .1) at (taken (ready .tells) _ refl (c .before .before .before .before .before .before .take .ensures))))
-
-add-n : tie.Need-add-n Inv-loop μ-loop
-add-n c = record { fits = omega (arith, c .before .before .before .before .before .before .before .before .before .before .before .before .before .before .loop-test .taken, c .before .before .before .before .before .before .before .before .before .before .before .before .before .before .before .before .before .before .before .before .before .fits .budget .fits) }
-
-loop-less : tie.Need-loop-less Inv-loop μ-loop
-loop-less c = omega arith
-
-loop-again : tie.Need-loop-again Inv-loop μ-loop
-unfolding applied
-loop-again c =
     let slot : c .before .before .before .before .before .before .before .before .before .before .before .before .before .before .before .loop .eip % 64 < 64 = omega arith in
     let ready =
     ⊎-elim
     (λ made. fresh (c .before .before .before .before .before .before .before .before .before .before .before .before .before .before .before .loop .inv .1) slot (made .1 .ensures) (made .2))
     (λ there. known (c .before .before .before .before .before .before .before .before .before .before .before .before .before .before .before .loop .inv .1) slot (c .before .before .before .before .before .before .before .before .before .before .before .before .is-for .ensures) (there .0 .left) (there .1))
     (c .before .before .before .before .before .before .before .before .before .before .before .if1 .came)
+    in
+    rw (← c .before .before .before .before .before .before .before .before .before .before .before .before .before .before .before .before .bits-of .ensures, c .machine-of .ensures)
+    (ends-stopped _ _ _ _ (c .before .before .before .before .before .before .before .before .before .before .before .before .before .before .before .loop .inv .0) (c .before .before .before .before .before .before .before .before .before .before .before .before .before .before .loop-test .taken)
+    (rw (c .before .before .number .given .1) at (taken (ready .tells) _ refl (c .before .before .before .before .before .before .take .ensures))))
+
+add-n : tie.Need-add-n Inv-loop μ-loop
+add-n c = record { fits = omega (arith, c .before .before .before .before .before .before .before .before .before .before .before .before .before .before .before .before .before .loop-test .taken, c .before .before .before .before .before .before .before .before .before .before .before .before .before .before .before .before .before .before .before .before .before .before .before .before .before .before .fits .budget .fits) }
+
+loop-less : tie.Need-loop-less Inv-loop μ-loop
+loop-less c = omega arith
+
+loop-again : tie.Need-loop-again Inv-loop μ-loop
+loop-again c =
+    let slot : c .before .before .before .before .before .before .before .before .before .before .before .before .before .before .before .before .before .before .loop .eip % 64 < 64 = omega arith in
+    let ready =
+    ⊎-elim
+    (λ made. fresh (c .before .before .before .before .before .before .before .before .before .before .before .before .before .before .before .before .before .before .loop .inv .1) slot (made .1 .ensures) (made .2))
+    (λ there. known (c .before .before .before .before .before .before .before .before .before .before .before .before .before .before .before .before .before .before .loop .inv .1) slot (c .before .before .before .before .before .before .before .before .before .before .before .before .before .before .before .is-for .ensures) (there .0 .left) (there .1))
+    (c .before .before .before .before .before .before .before .before .before .before .before .before .before .before .if1 .came)
     in (
-      rw (c .make .ensures)
-          (goes _ _ _ _ (c .before .before .before .before .before .before .before .before .before .before .before .before .before .before .before .loop .inv .0) (c .before .before .before .before .before .before .before .before .before .before .before .before .before .before .loop-test .taken) (c .before .before .before .before .before .before .before .take .kept .1 .1 .1 .1 .1 .0)
-          (went _ _ (rw (c .before .before .before .c .given .1) at (taken (ready .tells) _ refl (c .before .before .before .before .before .before .before .take .ensures))))),
+      rw (c .before .before .make .ensures, c .make-single .ensures)
+          (goes _ _ _ _ (c .before .before .before .before .before .before .before .before .before .before .before .before .before .before .before .before .before .before .loop .inv .0) (c .before .before .before .before .before .before .before .before .before .before .before .before .before .before .before .before .before .loop-test .taken) (c .before .before .before .before .before .before .before .before .before .take .kept .1 .1 .1 .1 .1 .1 .0)
+          (went _ _ (rw (c .before .before .before .before .before .c .given .1) at (taken (ready .tells) _ refl (c .before .before .before .before .before .before .before .before .before .take .ensures))))),
       ready .keeping,
     )
 
@@ -66,7 +66,7 @@ same-length-2 c = c .before .before .loop .inv .0 .long
 
 returns-2 : tie.Need-returns-2 Inv-loop μ-loop
 unfolding opened
-returns-2 c = rw (c .open2 .ensures) (ends-used _ _ _ _ (c .before .before .loop .inv .0) (c .before .loop-test .left))
+returns-2 c = rw (← c .before .before .before .bits-of .ensures, c .machine-of2 .ensures) (ends-used _ _ _ _ (c .before .before .loop .inv .0) (c .before .loop-test .left))
 
 pub steps-spec : {M : Type 1} → statement M
 steps-spec =
@@ -74,6 +74,7 @@ steps-spec =
     (tie.spec
     Inv-loop
     μ-loop
+    (λ c κs. search needs)
     (λ c κs. search needs)
     loop-holds
     (λ c. search needs)
@@ -87,6 +88,7 @@ steps-spec =
     (λ c. search needs)
     (λ c κs. search needs)
     (λ c. search needs)
+    (λ c κs. search needs)
     (λ c κs. search needs)
     (λ c. search needs)
     (λ c κs. search needs)

@@ -1,4 +1,4 @@
--- `sangolid::hand_back` meets its contract: twelve words, four at a time, are the whole state. Assumes nothing.
+-- `sangolid::hand_back` meets its contract: eight words, four at a time, and the rest are the whole state. Assumes nothing.
 use borrow.Author.Needs.{needs}
 use Rattle.sangolid.proofs.States.{handed}
 use Rattle.sangolid.proofs.hand_back.Statement.{statement}
@@ -7,7 +7,7 @@ use Rattle.sangolid.proofs.hand_back.Tie as tie
 returns : tie.Need-returns
 returns c =
     let start = c .before .before .before .before .before .before .before .before .before .before .before .before .before .before .before .before in
-    rw (c .before .before .put-four3 .ensures, c .before .before .before .before .before .before .before .put-four2 .ensures, c .before .before .before .before .before .before .before .before .before .before .before .put-four .ensures)
+    rw (c .before .before .put-rest .ensures, c .before .before .before .before .before .before .before .put-four2 .ensures, c .before .before .before .before .before .before .before .before .before .before .before .put-four .ensures)
     (handed (start .args .state .now) (start .args .ran) (start .pre .0))
 
 pub hand-back-spec : {M : Type 1} → statement M

@@ -17,13 +17,4 @@ returns-2 c =
     calls-run (a .state .now) (fixedTo (a .code .now) (a .constants .now)) (a .area .now) (a .budget) (c .before .before .before .before .before .before .before .before .before .before .if1 .left) (c .before .before .before .before .before .before .before .before .lent .ensures) (c .before .before .before .before .before .before .run .ensures) (c .before .before .hand-back .ensures)
 
 pub sangolid-run-spec : {M : Type 1} → statement M
-sangolid-run-spec =
-    tie.close
-    (tie.spec
-    returns
-    (λ c κs. search needs)
-    (λ c κs. search needs)
-    hand-back-requires
-    (λ c. search needs)
-    (λ c. search needs)
-    returns-2)
+sangolid-run-spec = tie.close (tie.spec returns (λ c κs. search needs) (λ c κs. search needs) hand-back-requires (λ c. search needs) (λ c. search needs) returns-2)

@@ -28,6 +28,10 @@ returns-6 : tie.Need-returns-6
 unfolding addressBy
 returns-6 c = λ eip f. simp (c .enum-told5 .given .1)
 
+returns-7 : tie.Need-returns-7
+unfolding addressBy
+returns-7 c = λ eip f. simp (c .enum-told6 .given .1)
+
 pub address-by-spec : {M : Type 1} → statement M
 address-by-spec =
     tie.close
@@ -39,9 +43,11 @@ address-by-spec =
     (λ c. search needs)
     (λ c. search needs)
     (λ c. search needs)
+    (λ c. search needs)
     returns
     returns-2
     returns-3
     returns-4
     returns-5
-    returns-6)
+    returns-6
+    returns-7)

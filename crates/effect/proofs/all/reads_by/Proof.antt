@@ -28,6 +28,10 @@ returns-6 : tie.Need-returns-6
 unfolding readsBy
 returns-6 c = λ eip f. rw (c .before .before .operation4 .given .1) (c .string-reads .ensures eip f)
 
+returns-7 : tie.Need-returns-7
+unfolding readsBy
+returns-7 c = λ eip f. simp (c .single-reads .ensures, c .before .enum-told3 .given .1)
+
 pub reads-by-spec : {M : Type 1} → statement M
 reads-by-spec =
     tie.close
@@ -43,9 +47,12 @@ reads-by-spec =
     (λ c κs. search needs)
     (λ c. search needs)
     (λ c κs. search needs)
+    (λ c. search needs)
+    (λ c κs. search needs)
     returns
     returns-2
     returns-3
     returns-4
     returns-5
-    returns-6)
+    returns-6
+    returns-7)

@@ -74,5 +74,7 @@ row-spec =
     (λ c. same-row (c .match .keys241)) (λ c. same-row (c .match .keys242)) (λ c. same-row (c .match .keys243)) (λ c. same-row (c .match .keys244))
     (λ c. same-row (c .match .keys245)) (λ c. same-row (c .match .keys246)) (λ c. same-row (c .match .keys247)) (λ c. same-row (c .match .keys248))
     (λ c. same-row (c .match .keys249)) (λ c. same-row (c .match .keys250)) (λ c. same-row (c .match .keys251)) (λ c. same-row (c .match .keys252))
-    (λ c. same-row (c .match .keys253)) (λ c. same-row (c .match .keys254)) (λ c. same-row (c .match .keys255))
+    (λ c. same-row (c .match .keys253)) (λ c. same-row (c .match .keys254)) (λ c. same-row (c .match .keys255)) (λ c. same-row (c .match .keys256))
+    (λ c. same-row (c .match .keys257)) (λ c. same-row (c .match .keys258)) (λ c. same-row (c .match .keys259)) (λ c. same-row (c .match .keys260))
+    (λ c. same-row (c .match .keys261)) (λ c. same-row (c .match .keys262)) (λ c. same-row (c .match .keys263)) (λ c. same-row (c .match .keys264))
     (λ c. no-row _ (c .match .rest)))

@@ -8,8 +8,8 @@ use Rattle.grammar.proofs.Below.{default}
 use Rattle.grammar.proofs.table.repeats_of.Statement.{statement}
 use Rattle.grammar.proofs.table.repeats_of.Tie as tie
 
-returns-4 : tie.Need-returns-4
-returns-4 c = sym (default repeatsWords PrefixRepeat.Either (c .before .args .digit) (c .match .rest))
+returns-5 : tie.Need-returns-5
+returns-5 c = sym (default repeatsWords PrefixRepeat.F3Asked (c .before .args .digit) (c .match .rest))
 
 pub repeats-of-spec : {M : Type 1} → statement M
-repeats-of-spec = tie.close (tie.spec (λ c. search needs) (λ c. search needs) (λ c. search needs) returns-4)
+repeats-of-spec = tie.close (tie.spec (λ c. search needs) (λ c. search needs) (λ c. search needs) (λ c. search needs) returns-5)

@@ -44,5 +44,6 @@ row-entry-spec =
     (λ c. same-first ruleOf (c .match .keys85)) (λ c. same-first ruleOf (c .match .keys86)) (λ c. same-first ruleOf (c .match .keys87))
     (λ c. same-first ruleOf (c .match .keys88)) (λ c. same-first ruleOf (c .match .keys89)) (λ c. same-first ruleOf (c .match .keys90))
     (λ c. same-first ruleOf (c .match .keys91)) (λ c. same-first ruleOf (c .match .keys92)) (λ c. same-first ruleOf (c .match .keys93))
-    (λ c. same-first ruleOf (c .match .keys94))
+    (λ c. same-first ruleOf (c .match .keys94)) (λ c. same-first ruleOf (c .match .keys95)) (λ c. same-first ruleOf (c .match .keys96))
+    (λ c. same-first ruleOf (c .match .keys97)) (λ c. same-first ruleOf (c .match .keys98))
     (λ c. no-first ruleOf _ (beyond rowCount _ (c .match .rest))))

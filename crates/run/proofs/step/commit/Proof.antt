@@ -1,7 +1,8 @@
 -- `step::commit` meets its contract: the one write, and then the changes. Assumes nothing.
 use mathlib.Core.Path.{refl}
-use Rattle.machine.specs.Lending.{holding}
-use Rattle.effect.specs.Changes.{applied}
+use Rattle.machine.specs.Registers.{withXmm, withSingle}
+use Rattle.machine.specs.Lending.{machineOf}
+use Rattle.effect.specs.Changes.{framed, singlesBy, applied}
 use Rattle.run.specs.Steps.{committed, steppedOf, dataAfter}
 use Rattle.run.specs.Taking.{steppedBy}
 use Rattle.run.proofs.Commits.{written, unwritten}
@@ -10,22 +11,26 @@ use Rattle.run.proofs.step.commit.Statement.{statement}
 use Rattle.run.proofs.step.commit.Tie as tie
 
 returns : tie.Need-returns
-unfolding committed steppedOf dataAfter steppedBy applied
-returns c = λ regs f. rw (c .enum-told .given .1) (record { is = refl; left = refl })
+unfolding committed steppedOf dataAfter steppedBy applied framed withXmm singlesBy
+returns c = λ regs xmm f. rw (c .enum-told .given .1) (record { is = refl; left = refl })
 
 returns-2 : tie.Need-returns-2
 returns-2 c =
     let s = c .before .before .before .before .store .ensures in
-    λ regs f. written _ (holding regs _ f) _ (c .before .before .before .before .before .before .enum-told2 .given .1) (s .0) (s .1) (c .enum-told3 .given .1)
+    λ regs xmm f. written _ (machineOf regs xmm _ f) _ (c .before .before .before .before .before .before .enum-told2 .given .1) (s .0) (s .1) (c .enum-told3 .given .1)
 
 returns-3 : tie.Need-returns-3
 returns-3 c =
     let s = c .before .before .before .before .before .before .store .ensures in
-    λ regs f. unwritten (c .before .before .before .before .before .before .before .before .before .before .before .args .c) (holding regs _ f) _ (c .before .before .before .before .before .before .before .before .enum-told2 .given .1) (s .0) (s .1) _ (c .before .before .a .given .1) (c .stops .ensures)
+    λ regs xmm f. unwritten (c .before .before .before .before .before .before .before .before .before .before .before .args .c) (machineOf regs xmm _ f) _ (c .before .before .before .before .before .before .before .before .enum-told2 .given .1) (s .0) (s .1) _ (c .before .before .a .given .1) (c .stops .ensures)
 
 returns-4 : tie.Need-returns-4
+unfolding committed steppedOf dataAfter steppedBy applied framed withXmm withSingle singlesBy
+returns-4 c = λ regs xmm f. rw (c .enum-told4 .given .1) (record { is = refl; left = refl })
+
+returns-5 : tie.Need-returns-5
 unfolding committed steppedOf dataAfter steppedBy applied
-returns-4 c = λ regs f. rw (c .stops2 .ensures, c .before .enum-told4 .given .1) (record { is = refl; left = refl })
+returns-5 c = λ regs xmm f. rw (c .stops2 .ensures, c .before .enum-told5 .given .1) (record { is = refl; left = refl })
 
 pub commit-spec : {M : Type 1} → statement M
 commit-spec =
@@ -38,10 +43,12 @@ commit-spec =
     (λ c. search needs)
     (λ c κs. search needs)
     (λ c. search needs)
+    (λ c. search needs)
     (λ c κs. search needs)
     returns
     (λ c. search needs)
     returns-2
     (λ c. search needs)
     returns-3
-    returns-4)
+    returns-4
+    returns-5)

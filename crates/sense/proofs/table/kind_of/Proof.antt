@@ -7,8 +7,8 @@ use Rattle.sense.proofs.table.kind_of.Tie as tie
 use Rattle.sense.specs.Table.{kindWords}
 use Rattle.sense.specs.declared.Kind.{Kind}
 
-returns-51 : tie.Need-returns-51
-returns-51 c = sym (default kindWords Kind.Shrd (c .before .args .number) (c .match .rest))
+returns-54 : tie.Need-returns-54
+returns-54 c = sym (default kindWords Kind.CompareSingle (c .before .args .number) (c .match .rest))
 
 pub kind-of-spec : {M : Type 1} → statement M
 kind-of-spec =
@@ -21,4 +21,4 @@ kind-of-spec =
     (λ c. search needs) (λ c. search needs) (λ c. search needs) (λ c. search needs) (λ c. search needs) (λ c. search needs) (λ c. search needs)
     (λ c. search needs) (λ c. search needs) (λ c. search needs) (λ c. search needs) (λ c. search needs) (λ c. search needs) (λ c. search needs)
     (λ c. search needs) (λ c. search needs) (λ c. search needs) (λ c. search needs) (λ c. search needs) (λ c. search needs) (λ c. search needs)
-    (λ c. search needs) returns-51)
+    (λ c. search needs) (λ c. search needs) (λ c. search needs) (λ c. search needs) returns-54)

@@ -45,5 +45,6 @@ row-entry-spec =
     (λ c. same-first senseOf (c .match .keys85)) (λ c. same-first senseOf (c .match .keys86)) (λ c. same-first senseOf (c .match .keys87))
     (λ c. same-first senseOf (c .match .keys88)) (λ c. same-first senseOf (c .match .keys89)) (λ c. same-first senseOf (c .match .keys90))
     (λ c. same-first senseOf (c .match .keys91)) (λ c. same-first senseOf (c .match .keys92)) (λ c. same-first senseOf (c .match .keys93))
-    (λ c. same-first senseOf (c .match .keys94))
+    (λ c. same-first senseOf (c .match .keys94)) (λ c. same-first senseOf (c .match .keys95)) (λ c. same-first senseOf (c .match .keys96))
+    (λ c. same-first senseOf (c .match .keys97)) (λ c. same-first senseOf (c .match .keys98))
     (λ c. no-first senseOf _ (beyond rowCount _ (c .match .rest))))
