@@ -32,11 +32,14 @@ READINGS = [1000 + 17 * hour for hour in range(25)]
 
 
 class State(ctypes.Structure):
-    """The state's 12 words by name, as sangolid_state in include/sangolid.h."""
+    """The state's 20 words by name, as sangolid_state in include/sangolid.h."""
 
     _fields_ = [
         (name, ctypes.c_uint32)
-        for name in "eax ecx edx ebx esp ebp esi edi eip flags steps address".split()
+        for name in (
+            "eax ecx edx ebx esp ebp esi edi eip flags"
+            " xmm0 xmm1 xmm2 xmm3 xmm4 xmm5 xmm6 xmm7 steps address"
+        ).split()
     ]
 
 

@@ -2,6 +2,7 @@
 #ifndef SANGOLID_H
 #define SANGOLID_H
 
+#include <fenv.h>
 #include <stddef.h>
 #include <stdint.h>
 #include <string.h>
@@ -13,9 +14,10 @@ extern "C" {
 /*
  * Runs the block: takes steps until one stops or the budget is used up.
  *
- * state          12 words, read and written: EAX ECX EDX EBX ESP EBP ESI EDI, EIP, the flags word (CF bit 0, PF 2, AF 4,
- *                ZF 6, SF 7, DF 10, OF 11; bit 1 set), then two that are only written: the steps done, and the address.
- * state_len      how many words the state has: 12.
+ * state          20 words, read and written: EAX ECX EDX EBX ESP EBP ESI EDI, EIP, the flags word (CF bit 0, PF 2, AF 4,
+ *                ZF 6, SF 7, DF 10, OF 11; bit 1 set), the low singles of XMM0 to XMM7 by their bits, of which any 32 are
+ *                one, then two that are only written: the steps done, and the address.
+ * state_len      how many words the state has: 20.
  * code           the block's bytes, which lie at 00010000h upward. They are only read.
  * code_len       how many they are: 1 to 65,536.
  * constants      the constants' bytes, which lie at 00200000h upward. They are only read. Operands that are not written
@@ -42,12 +44,18 @@ extern "C" {
  *   15  the constants have more than 65,536 bytes.
  *   12  the flags word has bit 1 clear, or a bit set that is no flag.
  *   13  the budget is over 1,000,000.
- *   90  the state doesn't have 12 words.
+ *   90  the state doesn't have 20 words.
  * With 1 to 7 all steps before the last stand, and the one that stopped has changed nothing. 10, 11, 15, 12 and 13
- * are tested in this order, and with them no step was taken: the first ten words and the data stay as they are, steps and
+ * are tested in this order, and with them no step was taken: the first 18 words and the data stay as they are, steps and
  * address are 0. With 90 nothing is changed.
  *
  * A flag that Intel's 1999 reference leaves undefined after an instruction comes out clear, whatever it was.
+ *
+ * Singles are computed by the processor's own arithmetic, in the floating-point state of the calling thread. A block that
+ * uses them gets the results that are promised, rounded to nearest even, denormals kept, nothing trapping, only in the
+ * default state, in which a program starts: not where the caller has set another rounding, has denormals flushed or
+ * taken as zero (-ffast-math does, when it links), or lets exceptions trap. sangolid_default_floats sets the default state.
+ * A run may set the thread's exception flags, and changes nothing else of that state.
  *
  * A pause changes nothing: a call with budget n and a further one with m, and the same constants, leave and return what
  * one with n + m does, and their steps add up to its steps, where m is at least 1 and n + m at most 1,000,000.
@@ -114,19 +122,25 @@ uint32_t sangolid_hex(const uint8_t *text, size_t text_len, uint8_t *code, size_
  * call, and nothing but these areas is read or written.
  */
 
-/* The state's 12 words by name, in their order. */
+/* The state's 20 words by name, in their order. */
 typedef struct sangolid_state {
     uint32_t eax, ecx, edx, ebx, esp, ebp, esi, edi;
     uint32_t eip;
     uint32_t flags;
+    uint32_t xmm0, xmm1, xmm2, xmm3, xmm4, xmm5, xmm6, xmm7;
     uint32_t steps;
     uint32_t address;
 } sangolid_state;
 
-#define SANGOLID_STATE_WORDS 12
+#define SANGOLID_STATE_WORDS 20
 
-/* These 12 words are all of it: this doesn't compile where they are not. */
-typedef char sangolid_state_is_12_words[sizeof(sangolid_state) == SANGOLID_STATE_WORDS * sizeof(uint32_t) ? 1 : -1];
+/* These 20 words are all of it: this doesn't compile where they are not. */
+typedef char sangolid_state_is_20_words[sizeof(sangolid_state) == SANGOLID_STATE_WORDS * sizeof(uint32_t) ? 1 : -1];
+
+/* Sets the calling thread's default floating-point state, for blocks that use singles; 0 if it is set. It needs -lm. */
+static inline int sangolid_default_floats(void) {
+    return fesetenv(FE_DFL_ENV);
+}
 
 /* Runs the block as sangolid_run does, with the state by name; 90 can't come back. */
 static inline uint32_t sangolid_run_state(sangolid_state *state, const uint8_t *code, size_t code_len,

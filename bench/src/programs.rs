@@ -1,7 +1,8 @@
 //! The programs under the clock, each run from a new state and new data.
 
 use partner::cases::RunCase;
-use partner::compare::{Other, STATE_WORDS};
+use partner::compare::{machine_in, state_words, Other};
+use partner::machine::Machine;
 use partner::run::run;
 use partner::sangolid::Sangolid;
 
@@ -18,12 +19,19 @@ pub struct End {
 pub struct Told {
     pub eip: u32,
     pub flags: u32,
+    pub singles: [u32; 8],
     pub number: u32,
     pub steps: u64,
     pub address: u32,
 }
 
 impl End {
+    /// All that an emulator of document 01 tells.
+    fn told(machine: Machine, data: Vec<u8>, number: u32, steps: u64, address: u32) -> End {
+        let Machine { regs, eip, flags, singles } = machine;
+        End { registers: regs, data, told: Some(Told { eip, flags, singles, number, steps, address }) }
+    }
+
     /// Whether both ended alike, in so far as both tell.
     pub fn agrees(&self, other: &End) -> bool {
         let told = self.told.zip(other.told).is_none_or(|(ours, theirs)| ours == theirs);
@@ -39,15 +47,11 @@ pub trait Program {
 
 impl Program for Sangolid {
     fn run(&mut self, case: &RunCase) -> End {
-        let mut state = [0; STATE_WORDS];
-        state[..8].copy_from_slice(&case.machine.regs);
-        state[8] = case.machine.eip;
-        state[9] = case.machine.flags;
+        let mut state = state_words(&case.machine, 0, 0);
         let mut data = case.data.clone();
         let number = Other::run(self, &mut state, &case.code, &case.constants, &mut data, case.budget);
-        let [registers @ .., eip, flags, steps, address] = state;
-        let told = Told { eip, flags, number, steps: u64::from(steps), address };
-        End { registers, data, told: Some(told) }
+        let [.., steps, address] = state;
+        End::told(machine_in(&state), data, number, u64::from(steps), address)
     }
 }
 
@@ -58,13 +62,6 @@ impl Program for Partner {
     fn run(&mut self, case: &RunCase) -> End {
         let mut data = case.data.clone();
         let outcome = run(case.machine, &case.code, &case.constants, &mut data, case.budget);
-        let told = Told {
-            eip: outcome.machine.eip,
-            flags: outcome.machine.flags,
-            number: outcome.number,
-            steps: outcome.steps,
-            address: outcome.address,
-        };
-        End { registers: outcome.machine.regs, data, told: Some(told) }
+        End::told(outcome.machine, data, outcome.number, outcome.steps, outcome.address)
     }
 }

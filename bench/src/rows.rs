@@ -12,6 +12,8 @@ pub struct Row {
     pub case: RunCase,
     /// Fewest runs in one measurement if each is a fresh one, for which Unicorn and libx86emu open a new engine.
     pub fresh_runs: Option<u32>,
+    /// Whether the block computes with singles, which Unicorn and libx86emu are not asked for.
+    pub singles: bool,
 }
 
 /// Bytes of data of a row that needs little.
@@ -92,6 +94,17 @@ const PRODUCT_LOOP: &[u8] = &[
     0xC3, // 9: RET
 ];
 
+/// A reading scaled, added up and stored in each round, with singles.
+const SINGLE_LOOP: &[u8] = &[
+    0xF3, 0x0F, 0x10, 0x06, // 0: MOVSS XMM0, [ESI]
+    0xF3, 0x0F, 0x59, 0xC1, // 4: MULSS XMM0, XMM1
+    0xF3, 0x0F, 0x58, 0xD0, // 8: ADDSS XMM2, XMM0
+    0xF3, 0x0F, 0x11, 0x17, // 12: MOVSS [EDI], XMM2
+    0x49, // 16: DEC ECX
+    0x75, 0xED, // 17: JNZ 0
+    0xC3, // 19: RET
+];
+
 /// The sum of a day's readings.
 const DAY: &[u8] = &[
     0x31, 0xC0, // 0: XOR EAX, EAX
@@ -106,7 +119,7 @@ const RETURN: &[u8] = &[0xC3]; // 0: RET
 
 /// A machine at the code's start with these of EAX, ECX, EDX, EBX, ESI, EDI.
 fn machine([eax, ecx, edx, ebx, esi, edi]: [u32; 6]) -> Machine {
-    Machine { regs: [eax, ecx, edx, ebx, 0, 0, esi, edi], eip: CODE_BASE, flags: ALWAYS }
+    Machine { regs: [eax, ecx, edx, ebx, 0, 0, esi, edi], eip: CODE_BASE, flags: ALWAYS, singles: [0; 8] }
 }
 
 /// A case without constants whose data's last word becomes the stack, which holds home.
@@ -124,7 +137,7 @@ fn with_constants(case: RunCase) -> RunCase {
 
 /// A row of long runs.
 fn long(name: &'static str, case: RunCase) -> Row {
-    Row { name, case, fresh_runs: None }
+    Row { name, case, fresh_runs: None, singles: false }
 }
 
 /// The register loop in this code with so many bytes of data.
@@ -169,6 +182,14 @@ fn product_loop() -> RunCase {
     returning(PRODUCT_LOOP, start, vec![0; FEW_BYTES], MAX_BUDGET)
 }
 
+/// The loop of singles; a reading of 100, the factor 1/10.
+fn single_loop() -> RunCase {
+    let mut start = machine([0, 150_000, 0, 0, DATA_BASE, DATA_BASE + 4]);
+    start.singles[1] = 0.1f32.to_bits();
+    let data = 100f32.to_le_bytes().into_iter().chain([0; FEW_BYTES - 4]).collect();
+    returning(SINGLE_LOOP, start, data, MAX_BUDGET)
+}
+
 /// The day's readings and their sum.
 fn day() -> RunCase {
     let readings = (0..HOURS as u32).map(|hour| 1000 + 17 * hour);
@@ -195,7 +216,8 @@ pub fn rows() -> Vec<Row> {
         long("REP MOVSW of 16,384 words", repeated_move()),
         long("call and return loop", call_loop()),
         long("multiply and divide loop", product_loop()),
-        Row { name: "1,000 fresh runs of a 25-hour day", case: day(), fresh_runs: Some(1_000) },
-        Row { name: "1,000 fresh runs of one RET", case: one_return(), fresh_runs: Some(1_000) },
+        Row { singles: true, ..long("loop of singles", single_loop()) },
+        Row { name: "1,000 fresh runs of a 25-hour day", case: day(), fresh_runs: Some(1_000), singles: false },
+        Row { name: "1,000 fresh runs of one RET", case: one_return(), fresh_runs: Some(1_000), singles: false },
     ]
 }

@@ -40,7 +40,8 @@ fn x86emu(_row: &Row) -> Entry {
 
 /// The programs by their names' order.
 fn programs(row: &Row) -> [Entry; 4] {
-    [Some(Box::new(Sangolid)), Some(Box::new(Partner)), unicorn(row), x86emu(row)]
+    let [unicorn, x86emu] = if row.singles { [None, None] } else { [unicorn(row), x86emu(row)] };
+    [Some(Box::new(Sangolid)), Some(Box::new(Partner)), unicorn, x86emu]
 }
 
 /// Names of the programs that don't end as Sangolid does.
@@ -105,8 +106,8 @@ fn print_row(row: &Row) -> bool {
 /// Prints the table of runs and tells whether all programs agree.
 pub fn print_runs() -> bool {
     println!("Runs: nanoseconds a step, best of several. Before a row is timed, the programs' ends are compared with");
-    println!("Sangolid's: registers, EIP, flags, number, steps, address and data; for Unicorn and libx86emu registers");
-    println!("and data.");
+    println!("Sangolid's: registers, EIP, flags, singles, number, steps, address and data; for Unicorn and libx86emu");
+    println!("registers and data. These two are not asked for the loop of singles.");
     for (found, name) in [(cfg!(unicorn), "Unicorn"), (cfg!(x86emu), "libx86emu")] {
         if !found {
             println!("{name} is skipped: it was not found when this program was built.");

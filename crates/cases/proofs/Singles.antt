@@ -2,7 +2,6 @@
 use mathlib.Core.Path.{refl}
 use mathlib.Core.List.{_++_, map}
 use lib.Count.{trailingZeros}
-use lib.ListN.{replicate}
 use lib.Ieee as Ieee
 use Rattle.width.specs.LittleEndian as LittleEndian
 use Rattle.width.specs.Sizes as Sizes
@@ -53,7 +52,7 @@ unfolding All Holds Gives rounded-singles chosen-singles compared-singles moved-
     Addresses.baseRegister Addresses.addressBase Addresses.effectiveAddress
     Plans.sizeOf Plans.operandOf Plans.isOffset Plans.addressIn Plans.nextOf Plans.planFor Plans.planOf
     Words.becomes Words.writes Words.sets Words.onward Words.readOr Words.readOf
-    Singles.singleValue Singles.assignSingle Singles.singleReads Singles.singleEffect
+    Singles.singleValue Singles.assignSingle Singles.singleReads Singles.singleMoved Singles.singleComputed Singles.singleCompared
     Effects.addressBy Effects.readsBy Effects.effectBy
     Steps.home Steps.inside Steps.committed Steps.finished Steps.performed Steps.operandAddress Steps.planned Steps.executed Steps.stepOf Steps.stored Steps.loaded
     Runs.onMoved Runs.runFrom Runs.refusal Runs.opened Runs.closed Runs.taken Runs.runOf

@@ -5,6 +5,7 @@ use machine::memory::load;
 use run::Lent;
 use run::Ran;
 use run::run;
+use scalar::Xmm;
 use width::Size;
 ghost use Prim.Native.Nat.{_≤_};
 ghost use lib.ListN.{length};
@@ -47,14 +48,17 @@ fn wide(n: u32) -> u64 {
     n as u64
 }
 
-// A machine at the code's start, by ECX, ESI and EDI; the other registers are 0, and the flags 0002h.
+// A machine at the code's start, by ECX, ESI and EDI; the other registers and the singles are 0, and the flags 0002h.
 fn lent(ecx: u32, esi: u32, edi: u32) -> Lent {
     let mut regs = [0u32; 8];
     regs[1] = ecx;
     regs[6] = esi;
     regs[7] = edi;
+    let zero = Xmm { bits: 0 };
+    let xmm = [zero; 8];
     Lent {
         regs,
+        xmm,
         eip: 0x0001_0000,
         word: 0x0002,
     }

@@ -3,13 +3,14 @@ use mathlib.Core.Path.{_≡_, refl, ap, _∙_}
 use mathlib.Core.Bool.{Bool, true, false, cond, true≢false}
 use mathlib.Core.List.{List}
 use Prim.Native.Nat.{ℕ}
+use native.Mathlib.Omega.{arith}
 use Rattle.width.specs.declared.Size.{Size}
 use Rattle.width.specs.declared.Size.the-variants.{Byte}
 use Rattle.scalar.specs.declared.Xmm.{Xmm}
 use Rattle.product.specs.declared.Division.{Division}
 use Rattle.product.specs.declared.Division.the-variants.{Parts, Fault}
 use Rattle.machine.specs.declared.registers.Machine.{Machine}
-use Rattle.machine.specs.Registers.{register, withRegister, withEip, withFlags, withXmm, holder, part, withPart}
+use Rattle.machine.specs.Registers.{register, withRegister, withEip, withFlags, withXmm, part, withPart}
 use Rattle.machine.specs.Lending.{xmmOf}
 use Rattle.grammar.specs.declared.rule.Repeat.{Repeat}
 use Rattle.sense.specs.declared.Arithmetic.{Arithmetic}
@@ -18,13 +19,13 @@ use Rattle.sense.specs.declared.Flagging.{Flagging}
 use Rattle.sense.specs.declared.Stack.{Stack}
 use Rattle.sense.specs.declared.Branch.{Branch}
 use Rattle.sense.specs.declared.Strings.{Strings}
-use Rattle.sense.specs.declared.Singles.{Singles}
 use Rattle.sense.specs.declared.Operation.{Operation}
 use Rattle.plan.specs.declared.Operand.{Operand}
 use Rattle.plan.specs.declared.Operand.the-variants.{Register, Memory, Number}
 use Rattle.plan.specs.declared.Address.{Address}
 use Rattle.plan.specs.declared.Plan.{Plan}
 use Rattle.plan.specs.Addresses.{scaledIndex, baseRegister, addressBase, effectiveAddress}
+use Rattle.effect.specs.declared.outcome.Outcome.the-variants.{Sets}
 use Rattle.effect.specs.Outcomes.{Effect, Computed}
 use Rattle.effect.specs.Changes.{lent, held, framed}
 use Rattle.effect.specs.Words.{becomes, writes, sets, faults, onward, value, assign, assigned}
@@ -33,9 +34,10 @@ use Rattle.effect.specs.Arithmetic.{arithmeticAddress, settled, doubled,
 use Rattle.effect.specs.Moves.{exchanged, chosen, moveEffect, flaggingEffect}
 use Rattle.effect.specs.Stacks.{above, below, pushed, stackReads, stackEffect}
 use Rattle.effect.specs.Branches.{counted, branched, looped, branchEffect}
-use Rattle.effect.specs.Strings.{passed, round, roundReads, over, repeated, withMachine, idle, stringReads, rounded, stringEffect}
-use Rattle.effect.specs.Singles.{assignSingle, singleEffect, onSingles}
+use Rattle.effect.specs.Strings.{passed, round, roundReads, repeated, withMachine, idle, stringReads, rounded, stringEffect}
+use Rattle.effect.specs.Singles.{assignSingle, singleMoved, singleComputed, singleCompared, onSingles}
 use Rattle.effect.specs.All.{addressBy, readsBy, effectBy}
+use Rattle.effect.proofs.Choosing as Choosing
 
 module _ (m : Machine) (xmm : List Xmm) where
   -- an operand's value
@@ -46,7 +48,7 @@ module _ (m : Machine) (xmm : List Xmm) where
   value-framed (Number n) r w = refl
 
   -- an effective address
-  effective-framed : (a : Address) → effectiveAddress (withXmm m xmm) a ≡ effectiveAddress m a
+  pub effective-framed : (a : Address) → effectiveAddress (withXmm m xmm) a ≡ effectiveAddress m a
   unfolding register withXmm scaledIndex baseRegister addressBase effectiveAddress
   effective-framed a = refl
 
@@ -79,7 +81,7 @@ module _ (m : Machine) (xmm : List Xmm) where
   operand-framed (Arithmetic.Bits op) p a = refl
   operand-framed (Arithmetic.BitString op) p a = rw (value-framed (p .source) 0 (p .size))
 
-  address-framed : (op : Operation) (p : Plan) (a : ℕ) → addressBy op (withXmm m xmm) p a ≡ addressBy op m p a
+  pub address-framed : (op : Operation) (p : Plan) (a : ℕ) → addressBy op (withXmm m xmm) p a ≡ addressBy op m p a
   unfolding addressBy
   address-framed (Operation.Arithmetic op) p a = operand-framed op p a
   address-framed (Operation.Move op) p a = refl
@@ -87,7 +89,9 @@ module _ (m : Machine) (xmm : List Xmm) where
   address-framed (Operation.Stack op) p a = refl
   address-framed (Operation.Branch op) p a = refl
   address-framed (Operation.Strings op) p a = refl
-  address-framed (Operation.Singles op) p a = refl
+  address-framed Operation.MoveSingle p a = refl
+  address-framed (Operation.ComputeSingle op) p a = refl
+  address-framed Operation.CompareSingle p a = refl
 
   -- what an operation reads
   stack-reads : (op : Stack) (p : Plan) (a : ℕ) → stackReads op (withXmm m xmm) p a ≡ stackReads op m p a
@@ -113,7 +117,7 @@ module _ (m : Machine) (xmm : List Xmm) where
   idle-framed Repeat.F2 = refl
   idle-framed Repeat.F3 = refl
 
-  reads-framed : (op : Operation) (p : Plan) (a : ℕ) → readsBy op (withXmm m xmm) p a ≡ readsBy op m p a
+  pub reads-framed : (op : Operation) (p : Plan) (a : ℕ) → readsBy op (withXmm m xmm) p a ≡ readsBy op m p a
   unfolding readsBy stringReads
   reads-framed (Operation.Arithmetic op) p a = refl
   reads-framed (Operation.Move op) p a = refl
@@ -121,7 +125,9 @@ module _ (m : Machine) (xmm : List Xmm) where
   reads-framed (Operation.Stack op) p a = stack-reads op p a
   reads-framed (Operation.Branch op) p a = refl
   reads-framed (Operation.Strings op) p a = rw (idle-framed (p .repeat), round-reads op (p .size))
-  reads-framed (Operation.Singles op) p a = refl
+  reads-framed Operation.MoveSingle p a = refl
+  reads-framed (Operation.ComputeSingle op) p a = refl
+  reads-framed Operation.CompareSingle p a = refl
 
 -- an effect that is chosen
 cond-framed : (xmm : List Xmm) (b : Bool) (e f : Effect) {e′ f′ : Effect} → e′ ≡ framed xmm e → f′ ≡ framed xmm f → cond b e′ f′ ≡ framed xmm (cond b e f)
@@ -234,7 +240,9 @@ framing (Operation.Flagging op) other m xmm p a r s = refl
 framing (Operation.Stack op) other m xmm p a r s = stack-framed m xmm p op a r
 framing (Operation.Branch op) other m xmm p a r s = branch-framed m xmm p op r
 framing (Operation.Strings op) other m xmm p a r s = string-framed m xmm p op r s
-framing (Operation.Singles op) other m xmm p a r s = absurd (true≢false other)
+framing Operation.MoveSingle other m xmm p a r s = absurd (true≢false other)
+framing (Operation.ComputeSingle op) other m xmm p a r s = absurd (true≢false other)
+framing Operation.CompareSingle other m xmm p a r s = absurd (true≢false other)
 
 -- so what it does to lent registers it does beside lent XMM registers
 pub lifted : (op : Operation) → onSingles op ≡ false → (regs xmm : List ℕ) (eip word : ℕ) (p : Plan) (a r s : ℕ) {e : Effect}
@@ -278,20 +286,125 @@ assigned-single (Register i) a m v = refl
 assigned-single Memory a m v = refl
 assigned-single (Number n) a m v = refl
 
--- so do the operations on singles
-single-kept : (op : Singles) (m : Machine) (p : Plan) (a r : ℕ) → (singleEffect op m p a r) .machine .xmm ≡ m .xmm
-unfolding withEip withFlags onward becomes singleEffect
-single-kept Singles.Move m p a r = assigned-single (p .destination) a (onward m p) _
-single-kept (Singles.Compute op) m p a r = assigned-single (p .destination) a (onward m p) _
-single-kept Singles.Compare m p a r = refl
-
 -- the machine of an effect has the singles of the machine before: only the put of an effect that sets one changes it
 pub singles-kept : (op : Operation) (m : Machine) (p : Plan) (a r s : ℕ) → (effectBy op m p a r s) .machine .xmm ≡ m .xmm
-unfolding withXmm effectBy onSingles framed
+unfolding withEip withFlags withXmm onward becomes singleMoved singleComputed singleCompared effectBy onSingles framed
 singles-kept (Operation.Arithmetic op) m p a r s = ap (λ e. e .machine .xmm) (framing (Operation.Arithmetic op) refl m (m .xmm) p a r s)
 singles-kept (Operation.Move op) m p a r s = ap (λ e. e .machine .xmm) (framing (Operation.Move op) refl m (m .xmm) p a r s)
 singles-kept (Operation.Flagging op) m p a r s = ap (λ e. e .machine .xmm) (framing (Operation.Flagging op) refl m (m .xmm) p a r s)
 singles-kept (Operation.Stack op) m p a r s = ap (λ e. e .machine .xmm) (framing (Operation.Stack op) refl m (m .xmm) p a r s)
 singles-kept (Operation.Branch op) m p a r s = ap (λ e. e .machine .xmm) (framing (Operation.Branch op) refl m (m .xmm) p a r s)
 singles-kept (Operation.Strings op) m p a r s = ap (λ e. e .machine .xmm) (framing (Operation.Strings op) refl m (m .xmm) p a r s)
-singles-kept (Operation.Singles op) m p a r s = single-kept op m p a r
+singles-kept Operation.MoveSingle m p a r s = assigned-single (p .destination) a (onward m p) _
+singles-kept (Operation.ComputeSingle op) m p a r s = assigned-single (p .destination) a (onward m p) _
+singles-kept Operation.CompareSingle m p a r s = refl
+
+-- an effect puts no single
+abbrev Puts-none : Effect → Type 0
+Puts-none e = e .outcome ≡ Sets → ⊥
+
+-- nothing is written, something is, or there is a divide error
+becomes-none : (m : Machine) → Puts-none (becomes m)
+unfolding becomes
+becomes-none m e = absurd (let z : _≡_ {A = ℕ} 0 1 = cc in omega arith)
+
+writes-none : (m : Machine) (w : Size) (a v : ℕ) → Puts-none (writes m w a v)
+unfolding writes
+writes-none m w a v e = absurd (let z : _≡_ {A = ℕ} 0 1 = cc in omega arith)
+
+faults-none : (m : Machine) → Puts-none (faults m)
+unfolding faults
+faults-none m e = absurd (let z : _≡_ {A = ℕ} 0 1 = cc in omega arith)
+
+-- an operand is assigned
+assign-none : (o : Operand) (a : ℕ) (m : Machine) (w : Size) (v : ℕ) → Puts-none (assign o a m w v)
+unfolding assign
+assign-none (Register i) a m w v = becomes-none _
+assign-none Memory a m w v = writes-none _ _ _ _
+assign-none (Number n) a m w v = becomes-none _
+
+-- a value is assigned or not
+settled-none : (c : Computed) (m : Machine) (p : Plan) (a : ℕ) → Puts-none (settled c m p a)
+unfolding settled
+settled-none c m p a = Choosing.chosen Puts-none (c .assigned) (assign-none (p .destination) a _ _ _) (becomes-none _)
+
+quotient-none : (q : Division) (m : Machine) (p : Plan) → Puts-none (quotient q m p)
+unfolding quotient
+quotient-none Fault m p = faults-none m
+quotient-none (Parts q r) m p = becomes-none _
+
+arithmetic-none : (op : Arithmetic) (m : Machine) (p : Plan) (a r : ℕ) → Puts-none (arithmeticEffect op m p a r)
+unfolding multiplied multipliedSigned divided dividedSigned arithmeticEffect
+arithmetic-none (Arithmetic.Binary op) m p a r = settled-none _ m p a
+arithmetic-none Arithmetic.Test m p a r = settled-none _ m p a
+arithmetic-none (Arithmetic.Single op) m p a r = settled-none _ m p a
+arithmetic-none (Arithmetic.Shift op) m p a r = settled-none _ m p a
+arithmetic-none Arithmetic.Mul m p a r = becomes-none _
+arithmetic-none Arithmetic.Imul m p a r = becomes-none _
+arithmetic-none Arithmetic.ImulLow m p a r = settled-none _ m p a
+arithmetic-none Arithmetic.Div m p a r = quotient-none _ m p
+arithmetic-none Arithmetic.Idiv m p a r = quotient-none _ m p
+arithmetic-none (Arithmetic.Bits op) m p a r = settled-none _ m p a
+arithmetic-none (Arithmetic.BitString op) m p a r = settled-none _ m p a
+
+move-none : (op : Move) (m : Machine) (p : Plan) (a r : ℕ) → Puts-none (moveEffect op m p a r)
+unfolding exchanged moveEffect
+move-none Move.Mov m p a r = assign-none (p .destination) a _ _ _
+move-none (Move.MovZero from) m p a r = assign-none (p .destination) a _ _ _
+move-none (Move.MovSign from) m p a r = assign-none (p .destination) a _ _ _
+move-none Move.Lea m p a r = assign-none (p .destination) a _ _ _
+move-none Move.Xchg m p a r = assign-none (p .destination) a _ _ _
+move-none Move.Convert m p a r = becomes-none _
+move-none Move.Spread m p a r = becomes-none _
+move-none Move.Bswap m p a r = assign-none (p .destination) a _ _ _
+move-none (Move.Set n) m p a r = assign-none (p .destination) a _ _ _
+move-none Move.Lahf m p a r = becomes-none _
+move-none Move.Sahf m p a r = becomes-none _
+move-none (Move.MovIf n) m p a r = assign-none (p .destination) a _ _ _
+
+stack-none : (op : Stack) (m : Machine) (p : Plan) (a r : ℕ) → Puts-none (stackEffect op m p a r)
+unfolding pushed stackEffect
+stack-none Stack.Push m p a r = writes-none _ _ _ _
+stack-none Stack.Pop m p a r = assign-none (p .destination) a _ _ _
+stack-none Stack.Leave m p a r = becomes-none _
+stack-none Stack.Call m p a r = writes-none _ _ _ _
+stack-none Stack.CallTo m p a r = writes-none _ _ _ _
+stack-none Stack.Return m p a r = becomes-none _
+
+branch-none : (op : Branch) (m : Machine) (p : Plan) (r : ℕ) → Puts-none (branchEffect op m p r)
+unfolding looped branchEffect
+branch-none Branch.Jump m p r = becomes-none _
+branch-none Branch.JumpTo m p r = becomes-none _
+branch-none (Branch.JumpIf n) m p r = becomes-none _
+branch-none Branch.Loopne m p r = becomes-none _
+branch-none Branch.Loope m p r = becomes-none _
+branch-none Branch.Loop m p r = becomes-none _
+branch-none Branch.Jecxz m p r = becomes-none _
+
+round-none : (op : Strings) (m : Machine) (w : Size) (r s : ℕ) → Puts-none (round op m w r s)
+unfolding round
+round-none Strings.Movs m w r s = writes-none _ _ _ _
+round-none Strings.Cmps m w r s = becomes-none _
+round-none Strings.Stos m w r s = writes-none _ _ _ _
+round-none Strings.Lods m w r s = becomes-none _
+round-none Strings.Scas m w r s = becomes-none _
+
+rounded-none : (again : Repeat) (op : Strings) (e : Effect) (p : Plan) → Puts-none e → Puts-none (rounded again op e p)
+unfolding withMachine rounded
+rounded-none Repeat.Absent op e p h = h
+rounded-none Repeat.F2 op e p h = h
+rounded-none Repeat.F3 op e p h = h
+
+-- no operation but those on singles puts one
+pub puts-none : (op : Operation) → onSingles op ≡ false → (m : Machine) (p : Plan) (a r s : ℕ) → (effectBy op m p a r s) .outcome ≡ Sets → ⊥
+unfolding flaggingEffect stringEffect effectBy onSingles
+puts-none (Operation.Arithmetic op) other m p a r s = arithmetic-none op m p a r
+puts-none (Operation.Move op) other m p a r s = move-none op m p a r
+puts-none (Operation.Flagging op) other m p a r s = becomes-none _
+puts-none (Operation.Stack op) other m p a r s = stack-none op m p a r
+puts-none (Operation.Branch op) other m p a r s = branch-none op m p r
+puts-none (Operation.Strings op) other m p a r s =
+    Choosing.chosen Puts-none (idle (p .repeat) m) (becomes-none _) (rounded-none (p .repeat) op _ p (round-none op m (p .size) r s))
+puts-none Operation.MoveSingle other m p a r s = absurd (true≢false other)
+puts-none (Operation.ComputeSingle op) other m p a r s = absurd (true≢false other)
+puts-none Operation.CompareSingle other m p a r s = absurd (true≢false other)

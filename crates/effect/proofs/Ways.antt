@@ -15,7 +15,6 @@ use Rattle.sense.specs.declared.Move.{Move}
 use Rattle.sense.specs.declared.Stack.{Stack}
 use Rattle.sense.specs.declared.Branch.{Branch}
 use Rattle.sense.specs.declared.Strings.{Strings}
-use Rattle.sense.specs.declared.Singles.{Singles}
 use Rattle.sense.specs.declared.Operation.{Operation}
 use Rattle.plan.specs.declared.Operand.{Operand}
 use Rattle.plan.specs.declared.Operand.the-variants.{Register, Memory, Number}
@@ -27,7 +26,7 @@ use Rattle.effect.specs.Moves.{exchanged, moveEffect, flaggingEffect}
 use Rattle.effect.specs.Stacks.{pushed, stackEffect}
 use Rattle.effect.specs.Branches.{branched, looped, branchEffect}
 use Rattle.effect.specs.Strings.{over, repeated, withMachine, idle, rounded, stringEffect}
-use Rattle.effect.specs.Singles.{assignSingle, singleEffect}
+use Rattle.effect.specs.Singles.{assignSingle, singleMoved, singleComputed, singleCompared}
 use Rattle.effect.specs.All.{effectBy}
 use Rattle.effect.specs.Ways.{indirectStack, indirectBranch, indirect}
 use Rattle.effect.proofs.Choosing.{chosen}
@@ -250,23 +249,18 @@ string-course op m p r s =
     chosen (Course m p false) (idle (p .repeat) m) (falling (of-becomes (on m p)))
     (rounded-course m p _ (record { place = kept .place; many = kept .many }) (p .repeat) op)
 
--- an operation on singles falls
-single-course : (op : Singles) (m : Machine) (p : Plan) (a r : ℕ) → Course m p false (singleEffect op m p a r)
-unfolding singleEffect
-single-course Singles.Move m p a r = falling (of-single (on m p) _ a _)
-single-course (Singles.Compute op) m p a r = falling (of-single (on m p) _ a _)
-single-course Singles.Compare m p a r = falling (of-becomes (flags-set (on m p) _))
-
 -- every operation has one of the ways, unless it is indirect, and keeps the number of registers
 course : (op : Operation) (m : Machine) (p : Plan) (a r s : ℕ) → Course m p (indirect op) (effectBy op m p a r s)
-unfolding indirect effectBy flaggingEffect
+unfolding indirect effectBy flaggingEffect singleMoved singleComputed singleCompared
 course (Operation.Arithmetic op) m p a r s = arithmetic-course op m p a r
 course (Operation.Move op) m p a r s = move-course op m p a r
 course (Operation.Flagging op) m p a r s = falling (of-becomes (flags-set (on m p) _))
 course (Operation.Stack op) m p a r s = stack-course op m p a r
 course (Operation.Branch op) m p a r s = branch-course op m p r
 course (Operation.Strings op) m p a r s = string-course op m p r s
-course (Operation.Singles op) m p a r s = single-course op m p a r
+course Operation.MoveSingle m p a r s = falling (of-single (on m p) _ a _)
+course (Operation.ComputeSingle op) m p a r s = falling (of-single (on m p) _ a _)
+course Operation.CompareSingle m p a r s = falling (of-becomes (flags-set (on m p) _))
 
 -- EIP stays, falls to the next instruction or leads to the target, but for each return and each jump or call through a register or memory
 pub way : (op : Operation) (m : Machine) (p : Plan) (a r s : ℕ) → indirect op ≡ false → Way m p (effectBy op m p a r s)

@@ -11,7 +11,7 @@ use Rattle.effect.specs.Moves.{moveReads, moveEffect, flaggingEffect}
 use Rattle.effect.specs.Stacks.{stackReads, stackEffect}
 use Rattle.effect.specs.Branches.{branchReads, branchEffect}
 use Rattle.effect.specs.Strings.{stringReads, stringEffect}
-use Rattle.effect.specs.Singles.{singleReads, singleEffect}
+use Rattle.effect.specs.Singles.{singleReads, singleMoved, singleComputed, singleCompared}
 
 -- where its operand in memory is, where a is the effective address
 unfoldable pub addressBy : Operation → Machine → Plan → ℕ → ℕ
@@ -21,7 +21,9 @@ addressBy (Operation.Flagging op) m p a = a
 addressBy (Operation.Stack op) m p a = a
 addressBy (Operation.Branch op) m p a = a
 addressBy (Operation.Strings op) m p a = a
-addressBy (Operation.Singles op) m p a = a
+addressBy Operation.MoveSingle m p a = a
+addressBy (Operation.ComputeSingle op) m p a = a
+addressBy Operation.CompareSingle m p a = a
 
 -- what it reads, in this order, where a is that address
 unfoldable pub readsBy : Operation → Machine → Plan → ℕ → Reads
@@ -31,7 +33,9 @@ readsBy (Operation.Flagging op) m p a = Nothing
 readsBy (Operation.Stack op) m p a = stackReads op m p a
 readsBy (Operation.Branch op) m p a = branchReads op p a
 readsBy (Operation.Strings op) m p a = stringReads op m p
-readsBy (Operation.Singles op) m p a = singleReads p a
+readsBy Operation.MoveSingle m p a = singleReads p a
+readsBy (Operation.ComputeSingle op) m p a = singleReads p a
+readsBy Operation.CompareSingle m p a = singleReads p a
 
 -- what it does, where a is that address, and r and s are what was read
 unfoldable pub effectBy : Operation → Machine → Plan → ℕ → ℕ → ℕ → Effect
@@ -41,4 +45,6 @@ effectBy (Operation.Flagging op) m p a r s = flaggingEffect op m p
 effectBy (Operation.Stack op) m p a r s = stackEffect op m p a r
 effectBy (Operation.Branch op) m p a r s = branchEffect op m p r
 effectBy (Operation.Strings op) m p a r s = stringEffect op m p r s
-effectBy (Operation.Singles op) m p a r s = singleEffect op m p a r
+effectBy Operation.MoveSingle m p a r s = singleMoved m p a r
+effectBy (Operation.ComputeSingle op) m p a r s = singleComputed op m p a r
+effectBy Operation.CompareSingle m p a r s = singleCompared m p r

@@ -7,10 +7,8 @@ use Rattle.scalar.specs.declared.Xmm.{Xmm}
 use Rattle.machine.specs.declared.registers.Machine.{Machine}
 use Rattle.machine.specs.declared.registers.Change.{Change}
 use Rattle.machine.specs.Lending.{machineOf, holding, xmmOf, changed}
-use Rattle.machine.specs.Registers.{withXmm, withBits}
+use Rattle.machine.specs.Registers.{withXmm}
 use Rattle.effect.specs.declared.arithmetic.Reckoned.{Reckoned}
-use Rattle.effect.specs.declared.outcome.Outcome.{Outcome}
-use Rattle.effect.specs.declared.outcome.Outcome.the-variants.{Becomes, Writes, Sets, Faults}
 use Rattle.effect.specs.declared.outcome.Changes.{Changes}
 use Rattle.effect.specs.Outcomes.{Effect, Computed}
 
@@ -52,20 +50,17 @@ framed xmm e =
       value = e .value;
     }
 
--- the singles after changes with this outcome
-unfoldable pub singlesBy : Outcome → Changes → List Xmm → List Xmm
-singlesBy Becomes c xmm = xmm
-singlesBy Writes c xmm = xmm
-singlesBy Sets c xmm = withBits xmm (c .address) (c .value)
-singlesBy Faults c xmm = xmm
-
--- the machine with the changes made on these registers and XMM registers
+-- the machine with the changes made on these registers, beside these XMM registers
 abbrev pub madeOf : Changes → List ℕ → List Xmm → Machine
-madeOf c regs xmm = machineOf (registersAfter c regs) (singlesBy (c .outcome) c xmm) (c .next) (flagsOf (c .word))
+madeOf c regs xmm = machineOf (registersAfter c regs) xmm (c .next) (flagsOf (c .word))
 
 -- the changes are what an effect does to the machine of these registers and flags, wherever it is
 abbrev pub Changing : List ℕ → ℕ → (Machine → Effect) → Changes → Type 0
 Changing regs word of c = (eip : ℕ) → of (held regs eip word) ≡ applied c regs
+
+-- the same beside lent XMM registers, of any registers
+abbrev pub Beside : List ℕ → ℕ → (Machine → Effect) → Changes → Type 0
+Beside xmm word of c = (regs : List ℕ) (eip : ℕ) → of (lent regs xmm eip word) ≡ framed (xmmOf xmm) (applied c regs)
 
 -- the changes come to an effect, of any registers, and ECX is not counted yet
 pub record Comes (of : List ℕ → Effect) (c : Changes) : Type 0 where

@@ -2,10 +2,10 @@
 use mathlib.Core.Bool.{Bool, true, false}
 use Prim.Native.Nat.{ℕ}
 use Rattle.width.specs.declared.Size.the-variants.{Dword}
+use Rattle.scalar.specs.declared.Compute.{Compute}
 use Rattle.scalar.specs.Singles.{computed, compared}
 use Rattle.machine.specs.declared.registers.Machine.{Machine}
 use Rattle.machine.specs.Registers.{single, withFlags}
-use Rattle.sense.specs.declared.Singles.{Singles}
 use Rattle.sense.specs.declared.Operation.{Operation}
 use Rattle.plan.specs.declared.Operand.{Operand}
 use Rattle.plan.specs.declared.Operand.the-variants.{Register, Memory, Number}
@@ -30,18 +30,21 @@ assignSingle (Number n) a m v = becomes m
 unfoldable pub singleReads : Plan → ℕ → Reads
 singleReads p a = readOf (p .source) a Dword
 
--- what the operation does
-unfoldable pub singleEffect : Singles → Machine → Plan → ℕ → ℕ → Effect
 -- 003 "MOVSS": DEST ← SRC
-singleEffect Singles.Move m p a r = assignSingle (p .destination) a (onward m p) (singleValue (p .source) m r)
+unfoldable pub singleMoved : Machine → Plan → ℕ → ℕ → Effect
+singleMoved m p a r = assignSingle (p .destination) a (onward m p) (singleValue (p .source) m r)
+
 -- 003 "ADDSS", "MULSS", "SUBSS", "MINSS", "DIVSS", "MAXSS": DEST ← DEST op SRC
-singleEffect (Singles.Compute op) m p a r =
+unfoldable pub singleComputed : Compute → Machine → Plan → ℕ → ℕ → Effect
+singleComputed op m p a r =
     assignSingle (p .destination) a (onward m p) (computed op (singleValue (p .destination) m r) (singleValue (p .source) m r))
+
 -- 003 "COMISS": the flags of DEST compared with SRC
-singleEffect Singles.Compare m p a r =
+unfoldable pub singleCompared : Machine → Plan → ℕ → Effect
+singleCompared m p r =
     becomes (withFlags (onward m p) (compared (singleValue (p .destination) m r) (singleValue (p .source) m r) (m .flags)))
 
--- whether an operation is one of these
+-- whether an operation is one on singles
 unfoldable pub onSingles : Operation → Bool
 onSingles (Operation.Arithmetic op) = false
 onSingles (Operation.Move op) = false
@@ -49,4 +52,6 @@ onSingles (Operation.Flagging op) = false
 onSingles (Operation.Stack op) = false
 onSingles (Operation.Branch op) = false
 onSingles (Operation.Strings op) = false
-onSingles (Operation.Singles op) = true
+onSingles Operation.MoveSingle = true
+onSingles (Operation.ComputeSingle op) = true
+onSingles Operation.CompareSingle = true

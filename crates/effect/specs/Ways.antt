@@ -31,4 +31,6 @@ indirect (Operation.Flagging op) = false
 indirect (Operation.Stack op) = indirectStack op
 indirect (Operation.Branch op) = indirectBranch op
 indirect (Operation.Strings op) = false
-indirect (Operation.Singles op) = false
+indirect Operation.MoveSingle = false
+indirect (Operation.ComputeSingle op) = false
+indirect Operation.CompareSingle = false

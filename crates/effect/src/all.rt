@@ -11,7 +11,9 @@ use crate::outcome::Changes;
 use crate::outcome::Reads;
 use crate::rounds::string_effect;
 use crate::rounds::string_reads;
-use crate::singles::single_effect;
+use crate::singles::single_compared;
+use crate::singles::single_computed;
+use crate::singles::single_moved;
 use crate::singles::single_reads;
 use crate::stacks::stack_effect;
 use crate::stacks::stack_reads;
@@ -33,7 +35,9 @@ pub fn address_by(operation: Operation, regs: &[u32; 8], p: Plan, a: u32) -> u32
         Operation::Stack(_) => a,
         Operation::Branch(_) => a,
         Operation::Strings(_) => a,
-        Operation::Singles(_) => a,
+        Operation::MoveSingle => a,
+        Operation::ComputeSingle(_) => a,
+        Operation::CompareSingle => a,
     }
 }
 
@@ -48,7 +52,9 @@ pub fn reads_by(operation: Operation, regs: &[u32; 8], p: Plan, a: u32) -> Reads
         Operation::Stack(op) => stack_reads(op, regs, p, a),
         Operation::Branch(op) => branch_reads(op, p, a),
         Operation::Strings(op) => string_reads(op, regs, p),
-        Operation::Singles(_) => single_reads(p, a),
+        Operation::MoveSingle => single_reads(p, a),
+        Operation::ComputeSingle(_) => single_reads(p, a),
+        Operation::CompareSingle => single_reads(p, a),
     }
 }
 
@@ -73,6 +79,8 @@ pub fn effect_by(
         Operation::Stack(op) => stack_effect(op, regs, word, p, a, r),
         Operation::Branch(op) => branch_effect(op, regs, word, p, r),
         Operation::Strings(op) => string_effect(op, regs, eip, word, p, r, s),
-        Operation::Singles(op) => single_effect(op, xmm, word, p, a, r),
+        Operation::MoveSingle => single_moved(xmm, word, p, a, r),
+        Operation::ComputeSingle(op) => single_computed(op, xmm, word, p, a, r),
+        Operation::CompareSingle => single_compared(xmm, word, p, r),
     }
 }

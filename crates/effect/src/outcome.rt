@@ -2,12 +2,9 @@
 use machine::registers::Change;
 use machine::registers::Machine;
 use machine::registers::put;
-use machine::registers::put_single;
 use width::Size;
 ghost use mathlib.Core.Path.{_≡_};
-ghost use Rattle.flags.specs.Word.{flagsOf};
-ghost use Rattle.machine.specs.Lending.{machineOf, xmmOf};
-ghost use Rattle.effect.specs.Changes.{registersAfter, singlesBy, madeOf};
+ghost use Rattle.effect.specs.Changes.{registersAfter, madeOf};
 
 // The machine changes and nothing is written, or something is, or a single is put into the XMM register with the number `address`, or a divide error.
 pub enum Outcome {
@@ -49,24 +46,9 @@ pub fn make(regs: &mut [u32; 8], c: Changes)
     put(regs, third);
 }
 
-// The single that is put, in place.
-pub fn make_single(xmm: &mut [u32; 8], c: Changes)
-    ensures { λ _. ⌜ xmmOf (now (xmm .exit)) ≡ singlesBy (c .outcome) c (xmmOf (now (xmm .entry))) ⌝ }
-{
-    let outcome = c.outcome;
-    match outcome {
-        Outcome::Becomes => {}
-        Outcome::Writes => {}
-        Outcome::Sets => {
-            put_single(xmm, c.address, c.value);
-        }
-        Outcome::Faults => {}
-    }
-}
-
-// The machine with the changes made, but for a single.
-fn moved(m: Machine, c: Changes) -> Machine
-    ensures { λ r. ⌜ r ≡ machineOf (registersAfter c (m .regs)) (m .xmm) (c .next) (flagsOf (c .word)) ⌝ }
+// The machine with the changes made.
+pub fn after(m: Machine, c: Changes) -> Machine
+    ensures { λ r. ⌜ r ≡ madeOf c (m .regs) (m .xmm) ⌝ }
 {
     let first = c.first;
     let second = c.second;
@@ -76,17 +58,4 @@ fn moved(m: Machine, c: Changes) -> Machine
         .with_change(third)
         .with_eip(c.next)
         .with_flags(flags::unpack(c.word))
-}
-
-// The machine with the changes made.
-pub fn after(m: Machine, c: Changes) -> Machine
-    ensures { λ r. ⌜ r ≡ madeOf c (m .regs) (m .xmm) ⌝ }
-{
-    let outcome = c.outcome;
-    match outcome {
-        Outcome::Becomes => moved(m, c),
-        Outcome::Writes => moved(m, c),
-        Outcome::Sets => moved(m, c).with_single(c.address, c.value),
-        Outcome::Faults => moved(m, c),
-    }
 }

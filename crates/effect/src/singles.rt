@@ -9,14 +9,13 @@ use crate::words::writes;
 use machine::registers;
 use plan::Operand;
 use plan::Plan;
-use sense::Singles;
+use scalar::Compute;
 use width::Size;
 ghost use mathlib.Core.Path.{_≡_};
 ghost use mathlib.Core.List.{List};
 ghost use Prim.Native.Nat.{ℕ};
-ghost use Rattle.machine.specs.Lending.{xmmOf};
 ghost use Rattle.effect.specs.Singles as S;
-ghost use Rattle.effect.specs.Changes.{lent, held, framed, applied};
+ghost use Rattle.effect.specs.Changes.{lent, held, applied, Beside};
 
 // An operand's single: that of an XMM register, or what was read.
 fn value(o: Operand, xmm: &[u32; 8], r: u32) -> u32
@@ -48,23 +47,33 @@ pub fn single_reads(p: Plan, a: u32) -> Reads
     read_of(source, a, Size::Dword)
 }
 
-// What the operation changes.
-pub fn single_effect(op: Singles, xmm: &[u32; 8], word: u32, p: Plan, a: u32, r: u32) -> Changes
-    ensures { λ c. ⌜ ((regs : List ℕ) (eip : ℕ) → S.singleEffect op (lent regs (now (xmm .entry)) eip word) p a r ≡ framed (xmmOf (now (xmm .entry))) (applied c regs)) ⌝ }
+// MOVSS.
+pub fn single_moved(xmm: &[u32; 8], word: u32, p: Plan, a: u32, r: u32) -> Changes
+    ensures { λ c. ⌜ Beside (now (xmm .entry)) word (λ m. S.singleMoved m p a r) c ⌝ }
+{
+    let destination = p.destination;
+    let source = p.source;
+    assign(destination, a, p.next, word, value(source, xmm, r))
+}
+
+// ADDSS MULSS SUBSS MINSS DIVSS MAXSS.
+pub fn single_computed(op: Compute, xmm: &[u32; 8], word: u32, p: Plan, a: u32, r: u32) -> Changes
+    ensures { λ c. ⌜ Beside (now (xmm .entry)) word (λ m. S.singleComputed op m p a r) c ⌝ }
 {
     let destination = p.destination;
     let source = p.source;
     let x = value(destination, xmm, r);
     let y = value(source, xmm, r);
-    match op {
-        Singles::Move => assign(destination, a, p.next, word, y),
-        Singles::Compute(compute) => assign(
-            destination,
-            a,
-            p.next,
-            word,
-            scalar::computed(compute, x, y),
-        ),
-        Singles::Compare => becomes(p.next, scalar::compared(x, y, word), none(), none()),
-    }
+    assign(destination, a, p.next, word, scalar::computed(op, x, y))
+}
+
+// COMISS.
+pub fn single_compared(xmm: &[u32; 8], word: u32, p: Plan, r: u32) -> Changes
+    ensures { λ c. ⌜ Beside (now (xmm .entry)) word (λ m. S.singleCompared m p r) c ⌝ }
+{
+    let destination = p.destination;
+    let source = p.source;
+    let x = value(destination, xmm, r);
+    let y = value(source, xmm, r);
+    becomes(p.next, scalar::compared(x, y, word), none(), none())
 }

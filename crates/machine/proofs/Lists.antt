@@ -4,7 +4,7 @@ use mathlib.Core.List.{List, [], _∷_, map}
 use Prim.Native.Nat.{ℕ, zero, suc, _+_, _%_, _≤_}
 use native.Mathlib.Omega.{arith}
 use lib.ListN.{length, getD, set, take, drop}
-use lib.Seq.{drop-cons, take-all}
+use lib.Seq.{drop-cons, take-all, getD-set-same, getD-set-other}
 use Rattle.scalar.specs.declared.Xmm.{Xmm}
 use Rattle.machine.specs.Registers.{bitsIn, withBits}
 use Rattle.machine.specs.Lending.{xmmOf}
@@ -52,3 +52,13 @@ with-bits l i v = set-bits l (i % 8) v
 pub of-bits : (xmm : List Xmm) → length xmm ≡ 8 → xmmOf (map (λ (x : Xmm). x .bits) (listed (of 0) 8 0 xmm)) ≡ xmm
 unfolding xmmOf
 of-bits xmm eight = eight-listed (of 0) xmm eight
+
+-- what is put into one of eight XMM registers is read from it again, bit for bit
+pub put-read : (xmm : List Xmm) (i v : ℕ) → length xmm ≡ 8 → bitsIn (withBits xmm i v) i ≡ v
+unfolding bitsIn withBits
+put-read xmm i v eight = ap (λ (x : Xmm). x .bits) (getD-set-same xmm (i % 8) (of v) (of 0) (omega arith))
+
+-- and the others keep their bits
+pub put-others : (xmm : List Xmm) (i j v : ℕ) → (j % 8 ≡ i % 8 → ⊥) → bitsIn (withBits xmm i v) j ≡ bitsIn xmm j
+unfolding bitsIn withBits
+put-others xmm i j v other = ap (λ (x : Xmm). x .bits) (getD-set-other xmm (i % 8) (j % 8) (of v) (of 0) other)

@@ -10,8 +10,8 @@ ghost use Rattle.machine.specs.Registers.{
   withEip,
   withFlags,
   bitsIn,
+  withXmm,
   withBits,
-  withSingle,
   holder,
   lowest,
   part,
@@ -203,12 +203,11 @@ impl Machine {
         self
     }
 
-    // The machine with other bits in an XMM register.
-    pub fn with_single(mut self, i: u32, bits: u32) -> Machine
-        ensures { λ r. ⌜ r ≡ withSingle self i bits ⌝ }
+    // The machine with other XMM registers.
+    pub fn with_xmm(mut self, xmm: [Xmm; 8]) -> Machine
+        ensures { λ r. ⌜ r ≡ withXmm self xmm ⌝ }
     {
-        let at = (i % 8) as usize;
-        self.xmm[at] = Xmm { bits };
+        self.xmm = xmm;
         self
     }
 

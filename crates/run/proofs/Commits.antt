@@ -17,7 +17,7 @@ use Rattle.machine.proofs.Allowed.{constants-unwritten}
 use Rattle.effect.specs.declared.outcome.Outcome.the-variants.{Writes}
 use Rattle.effect.specs.declared.outcome.Changes.{Changes}
 use Rattle.effect.specs.Outcomes.{Effect}
-use Rattle.effect.specs.Changes.{framed, singlesBy, applied}
+use Rattle.effect.specs.Changes.{framed, applied}
 use Rattle.run.specs.declared.step.Taken.{Taken}
 use Rattle.run.specs.Steps.{stop, steppedOf, dataAfter, stored, committed}
 use Rattle.run.specs.Taking.{steppedBy, Takes}
@@ -37,14 +37,14 @@ module _ (c : Changes) (m : Machine) (d : List ℕ) {s : Stored} {d′ : List �
     (answer : s ≡ storedOf d (c .size) (c .address))
     (left : d′ ≡ storeOf d (c .size) (c .address) (c .value)) where
   -- the write is done
-  pub written : s ≡ Done → Takes (committed (c .outcome) (framed (m .xmm) (applied c (m .regs))) m d) m d (Taken.Goes c) d′
-  unfolding committed stored steppedOf dataAfter steppedBy applied framed withXmm singlesBy
+  pub written : s ≡ Done → Takes (committed (c .outcome) (framed (m .xmm) (applied c (m .regs))) m d) m d (Taken.Goes c) (m .xmm) d′
+  unfolding committed stored steppedOf dataAfter steppedBy applied framed withXmm
   written done = rw (writes, ← answer, done) (record { is = refl; left = left })
 
   -- the write is not allowed
   pub unwritten : (b : ℕ) → s ≡ Stored.Outside b → {t : Taken} → t ≡ Taken.Stops 6 b
-      → Takes (committed (c .outcome) (framed (m .xmm) (applied c (m .regs))) m d) m d t d′
-  unfolding committed stored steppedOf dataAfter steppedBy applied framed withXmm singlesBy
+      → Takes (committed (c .outcome) (framed (m .xmm) (applied c (m .regs))) m d) m d t (m .xmm) d′
+  unfolding committed stored steppedOf dataAfter steppedBy applied framed withXmm
   unwritten b outside is =
       rw (is, writes, ← answer, outside)
       (record { is = refl; left = left ∙ unstored d (c .size) (c .address) (c .value) b (sym answer ∙ outside) })

@@ -6,7 +6,9 @@ use Prim.Native.Nat.{ℕ, suc, _+_, _-_, _<_, _≤_}
 use native.Mathlib.Numerals.{add-one}
 use native.Mathlib.Omega.{arith}
 use lib.ListN.{length}
+use Rattle.scalar.specs.declared.Xmm.{Xmm}
 use Rattle.machine.specs.declared.registers.Machine.{Machine}
+use Rattle.machine.specs.Registers.{withXmm}
 use Rattle.effect.specs.declared.outcome.Changes.{Changes}
 use Rattle.effect.specs.Changes.{madeOf}
 use Rattle.run.specs.declared.step.Stepped.{Stepped}
@@ -22,19 +24,21 @@ stepped (next m′ d′) s going = rw (s .is, s .left)
 stepped (stop n a) s going = absurd (let e = s .is in let z : _≡_ {A = ℕ} 0 1 = cc in omega arith)
 
 -- a step that goes moved to the machine with its changes made, and to the data that it left
-pub went : (moved : Moved) {m : Machine} {d after : List ℕ} (c : Changes) → Takes moved m d (Taken.Goes c) after → moved ≡ next (madeOf c (m .regs) (m .xmm)) after
-unfolding steppedBy movedTo
+pub went : (moved : Moved) {m : Machine} {d after : List ℕ} {xmm : List Xmm} (c : Changes) → Takes moved m d (Taken.Goes c) xmm after
+    → moved ≡ next (madeOf c (m .regs) xmm) after
+unfolding steppedBy movedTo withXmm
 went moved c s = stepped moved s refl
 
--- a step that stopped has the number and the address that it hands back, and left the data
-record Halted (moved : Moved) (d after : List ℕ) (r : Stepped) : Type 0 where
+-- a step that stopped has the number and the address that it hands back, and left the machine and the data
+record Halted (moved : Moved) (m : Machine) (d after : List ℕ) (r : Stepped) : Type 0 where
   at : moved ≡ stop (r .number) (r .address)
+  here : r .machine ≡ m
   same : after ≡ d
 
-halted : (moved : Moved) {m : Machine} {d after : List ℕ} {r : Stepped} → Steps moved m d r after → r .stopped ≡ true → Halted moved d after r
+halted : (moved : Moved) {m : Machine} {d after : List ℕ} {r : Stepped} → Steps moved m d r after → r .stopped ≡ true → Halted moved m d after r
 unfolding steppedOf movedTo stoppedAt dataAfter
 halted (next m′ d′) s stopping = absurd (let e = s .is in let z : _≡_ {A = ℕ} 0 1 = cc in omega arith)
-halted (stop n a) s stopping = record { at = rw (s .is); same = s .left }
+halted (stop n a) s stopping = record { at = rw (s .is); here = ap (λ (r : Stepped). r .machine) (s .is); same = s .left }
 
 -- after n steps the rest of the budget leads to the whole run's end
 pub record Going (fixed : Fixed) (d₀ : List ℕ) (budget : ℕ) (m₀ : Machine) (d : List ℕ) (m : Machine) (n : ℕ) : Type 0 where
@@ -76,12 +80,12 @@ module _ (fixed : Fixed) (d₀ : List ℕ) (budget : ℕ) (m₀ : Machine) where
     ends h = let w = g .within in let none : budget - n ≡ 0 = omega arith in sym (g .end) ∙ rw none
 
     -- the step stops: the run ends with its number and address
-    pub ends-stopped : n < budget → {after : List ℕ} {k a : ℕ} → Takes (stepOf fixed m d) m d (Taken.Stops k a) after
-        → Ends (runFrom fixed budget m₀ d₀ 0) (record { machine = m; steps = n; number = k; address = a }) after
+    pub ends-stopped : n < budget → {after : List ℕ} (xmm : List Xmm) {k a : ℕ} → Takes (stepOf fixed m d) m d (Taken.Stops k a) xmm after
+        → Ends (runFrom fixed budget m₀ d₀ 0) (record { machine = withXmm m xmm; steps = n; number = k; address = a }) after
     unfolding steppedBy stoppedAt
-    ends-stopped h s =
+    ends-stopped h xmm s =
         let e = halted (stepOf fixed m d) s refl in
-        rw (stops h (e .at)) (record { is = refl; left = e .same })
+        rw (stops h (e .at), e .here) (record { is = refl; left = e .same })
 
     -- the budget is used up
     pub ends-used : budget ≤ n → Ends (runFrom fixed budget m₀ d₀ 0) (record { machine = m; steps = n; number = 0; address = m .eip }) d

@@ -1,5 +1,6 @@
 -- The definitions of `run`. Assumes nothing.
 pub mod Steps
+pub mod Beside
 pub mod Fetching
 pub mod Runs
 pub mod Standing

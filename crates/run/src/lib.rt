@@ -8,7 +8,6 @@ use crate::site::stopping;
 use crate::site::take;
 use crate::step::Taken;
 use effect::outcome::make;
-use effect::outcome::make_single;
 use machine::registers::Machine;
 use machine::registers::bits_of;
 use machine::registers::xmm_of;
@@ -104,10 +103,9 @@ fn steps(code: &[u8], constants: &[u8], l: Lent, area: &mut [u8], budget: u64) -
             kept[slot] = site_at(code, eip);
         }
         let here = kept[slot];
-        match take(here, &regs, &xmm, eip, word, constants, area) {
+        match take(here, &regs, &mut xmm, eip, word, constants, area) {
             Taken::Goes(c) => {
                 make(&mut regs, c);
-                make_single(&mut xmm, c);
                 eip = c.next;
                 word = c.word;
             }

@@ -14,6 +14,7 @@ use width::Size;
 ghost use mathlib.Core.Path.{_≡_};
 ghost use mathlib.Core.Bool.{_&&_};
 ghost use lib.Dec.{eqb};
+ghost use Rattle.machine.specs.Lending.{xmmOf};
 ghost use Rattle.effect.specs.Changes.{lent};
 ghost use Rattle.run.specs.Sites.{siteStep, Stops, Tells};
 ghost use Rattle.run.specs.Taking.{Takes};
@@ -94,13 +95,13 @@ pub fn is_for(s: Site, eip: u32) -> bool
 pub fn take(
     s: Site,
     regs: &[u32; 8],
-    xmm: &[u32; 8],
+    xmm: &mut [u32; 8],
     eip: u32,
     word: u32,
     constants: &[u8],
     area: &mut [u8],
 ) -> Taken
-    ensures { λ r. ⌜ Takes (siteStep (now (constants .entry)) s (lent (now (regs .entry)) (now (xmm .entry)) eip word) (now (area .entry))) (lent (now (regs .entry)) (now (xmm .entry)) eip word) (now (area .entry)) r (now (area .exit)) ⌝ }
+    ensures { λ r. ⌜ Takes (siteStep (now (constants .entry)) s (lent (now (regs .entry)) (now (xmm .entry)) eip word) (now (area .entry))) (lent (now (regs .entry)) (now (xmm .entry)) eip word) (now (area .entry)) r (xmmOf (now (xmm .exit))) (now (area .exit)) ⌝ }
 {
     if s.planned {
         let p = s.plan;

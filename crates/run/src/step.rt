@@ -12,6 +12,8 @@ use machine::memory::Loaded;
 use machine::memory::Stored;
 use machine::registers::Machine;
 use machine::registers::bits_of;
+use machine::registers::put_single;
+use machine::registers::xmm_of;
 use plan::Plan;
 use width::Size;
 ghost use mathlib.Core.Path.{_≡_};
@@ -19,8 +21,7 @@ ghost use mathlib.Core.List.{List};
 ghost use Prim.Native.Nat.{ℕ};
 ghost use Rattle.flags.specs.declared.Flags.{Flags};
 ghost use Rattle.machine.specs.Memory.{loadOf};
-ghost use Rattle.scalar.specs.declared.Xmm.{Xmm};
-ghost use Rattle.machine.specs.Lending.{machineOf};
+ghost use Rattle.machine.specs.Lending.{machineOf, xmmOf};
 ghost use Rattle.effect.specs.Changes.{lent, framed, applied};
 ghost use Rattle.run.specs.Steps.{
   fixedTo,
@@ -58,11 +59,11 @@ pub fn stops(number: u32, address: u32) -> Taken
     Taken::Stops { number, address }
 }
 
-// The effect's one write, if it has one, and then the changes.
-fn commit(c: Changes, eip: u32, area: &mut [u8]) -> Taken
+// The effect's one write, or the single that it puts, if it has one, and then the changes.
+fn commit(c: Changes, eip: u32, xmm: &mut [u32; 8], area: &mut [u8]) -> Taken
     ensures { λ r. ⌜
-        ((regs : List ℕ) (xmm : List Xmm) (f : Flags)
-        → Takes (committed (c .outcome) (framed xmm (applied c regs)) (machineOf regs xmm eip f) (now (area .entry))) (machineOf regs xmm eip f) (now (area .entry)) r (now (area .exit)))
+        ((regs : List ℕ) (f : Flags)
+        → Takes (committed (c .outcome) (framed (xmmOf (now (xmm .entry))) (applied c regs)) (machineOf regs (xmmOf (now (xmm .entry))) eip f) (now (area .entry))) (machineOf regs (xmmOf (now (xmm .entry))) eip f) (now (area .entry)) r (xmmOf (now (xmm .exit))) (now (area .exit)))
         ⌝ }
 {
     let outcome = c.outcome;
@@ -75,7 +76,10 @@ fn commit(c: Changes, eip: u32, area: &mut [u8]) -> Taken
                 Stored::Outside(a) => stops(6, a),
             }
         }
-        Outcome::Sets => Taken::Goes(c),
+        Outcome::Sets => {
+            put_single(xmm, c.address, c.value);
+            Taken::Goes(c)
+        }
         Outcome::Faults => stops(7, eip),
     }
 }
@@ -84,7 +88,7 @@ fn commit(c: Changes, eip: u32, area: &mut [u8]) -> Taken
 fn finish(
     p: Plan,
     regs: &[u32; 8],
-    xmm: &[u32; 8],
+    xmm: &mut [u32; 8],
     eip: u32,
     word: u32,
     a: u32,
@@ -92,10 +96,11 @@ fn finish(
     r: u32,
     s: u32,
 ) -> Taken
-    ensures { λ t. ⌜ Takes (finished p (lent (now (regs .entry)) (now (xmm .entry)) eip word) a (now (area .entry)) r s) (lent (now (regs .entry)) (now (xmm .entry)) eip word) (now (area .entry)) t (now (area .exit)) ⌝ }
+    ensures { λ t. ⌜ Takes (finished p (lent (now (regs .entry)) (now (xmm .entry)) eip word) a (now (area .entry)) r s) (lent (now (regs .entry)) (now (xmm .entry)) eip word) (now (area .entry)) t (xmmOf (now (xmm .exit))) (now (area .exit)) ⌝ }
 {
     let op = p.operation;
-    commit(effect_by(op, regs, xmm, eip, word, p, a, r, s), eip, area)
+    let c = effect_by(op, regs, xmm, eip, word, p, a, r, s);
+    commit(c, eip, xmm, area)
 }
 
 // What was read, 0 where nothing was; or the address that is outside.
@@ -156,14 +161,14 @@ fn perform(
     reads: Reads,
     p: Plan,
     regs: &[u32; 8],
-    xmm: &[u32; 8],
+    xmm: &mut [u32; 8],
     eip: u32,
     word: u32,
     a: u32,
     constants: &[u8],
     area: &mut [u8],
 ) -> Taken
-    ensures { λ r. ⌜ Takes (performed (now (constants .entry)) reads p (lent (now (regs .entry)) (now (xmm .entry)) eip word) a (now (area .entry))) (lent (now (regs .entry)) (now (xmm .entry)) eip word) (now (area .entry)) r (now (area .exit)) ⌝ }
+    ensures { λ r. ⌜ Takes (performed (now (constants .entry)) reads p (lent (now (regs .entry)) (now (xmm .entry)) eip word) a (now (area .entry))) (lent (now (regs .entry)) (now (xmm .entry)) eip word) (now (area .entry)) r (xmmOf (now (xmm .exit))) (now (area .exit)) ⌝ }
 {
     match fetch(reads, constants, area) {
         Fetched::Values { first, second } => finish(
@@ -185,13 +190,13 @@ fn perform(
 pub fn follow(
     p: Plan,
     regs: &[u32; 8],
-    xmm: &[u32; 8],
+    xmm: &mut [u32; 8],
     eip: u32,
     word: u32,
     constants: &[u8],
     area: &mut [u8],
 ) -> Taken
-    ensures { λ r. ⌜ Takes (planned (now (constants .entry)) p (lent (now (regs .entry)) (now (xmm .entry)) eip word) (now (area .entry))) (lent (now (regs .entry)) (now (xmm .entry)) eip word) (now (area .entry)) r (now (area .exit)) ⌝ }
+    ensures { λ r. ⌜ Takes (planned (now (constants .entry)) p (lent (now (regs .entry)) (now (xmm .entry)) eip word) (now (area .entry))) (lent (now (regs .entry)) (now (xmm .entry)) eip word) (now (area .entry)) r (xmmOf (now (xmm .exit))) (now (area .exit)) ⌝ }
 {
     let op = p.operation;
     let address = p.address;
@@ -249,16 +254,16 @@ pub fn step(code: &[u8], constants: &[u8], m: Machine, area: &mut [u8]) -> Stepp
 {
     let regs = m.regs;
     let singles = m.xmm;
-    let xmm = bits_of(singles);
+    let mut xmm = bits_of(singles);
     let f = m.flags;
     let t = take(
         site_at(code, m.eip),
         &regs,
-        &xmm,
+        &mut xmm,
         m.eip,
         flags::pack(f),
         constants,
         area,
     );
-    answer(m, t)
+    answer(m.with_xmm(xmm_of(xmm)), t)
 }

@@ -18,7 +18,6 @@ use Rattle.sense.specs.declared.Stack.{Stack}
 use Rattle.sense.specs.declared.Branch.{Branch}
 use Rattle.sense.specs.declared.Strings.{Strings}
 use Rattle.sense.specs.declared.Bits.{Bits}
-use Rattle.sense.specs.declared.Singles.{Singles}
 use Rattle.sense.specs.declared.Operation.{Operation}
 
 -- ADD OR ADC SBB AND SUB XOR, by three bits
@@ -133,6 +132,6 @@ operationOf Kind.Bsf opcode field = Operation.Arithmetic (Arithmetic.Bits (Bits.
 operationOf Kind.Bsr opcode field = Operation.Arithmetic (Arithmetic.Bits (Bits.Scan Scan.Bsr))
 operationOf Kind.Shld opcode field = Operation.Arithmetic (Arithmetic.Bits (Bits.Double DoubleShift.Shld))
 operationOf Kind.Shrd opcode field = Operation.Arithmetic (Arithmetic.Bits (Bits.Double DoubleShift.Shrd))
-operationOf Kind.MoveSingle opcode field = Operation.Singles Singles.Move
-operationOf Kind.ComputeSingle opcode field = Operation.Singles (Singles.Compute (computeAt (opcode % 8)))
-operationOf Kind.CompareSingle opcode field = Operation.Singles Singles.Compare
+operationOf Kind.MoveSingle opcode field = Operation.MoveSingle
+operationOf Kind.ComputeSingle opcode field = Operation.ComputeSingle (computeAt (opcode % 8))
+operationOf Kind.CompareSingle opcode field = Operation.CompareSingle

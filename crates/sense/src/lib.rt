@@ -94,13 +94,6 @@ pub enum Strings {
     Scas,
 }
 
-// Operations on the singles of XMM registers.
-pub enum Singles {
-    Move,
-    Compute(Compute),
-    Compare,
-}
-
 pub enum Operation {
     Arithmetic(Arithmetic),
     Move(Move),
@@ -108,7 +101,10 @@ pub enum Operation {
     Stack(Stack),
     Branch(Branch),
     Strings(Strings),
-    Singles(Singles),
+    // On the singles of XMM registers: MOVSS, ADDSS to MAXSS, COMISS.
+    MoveSingle,
+    ComputeSingle(Compute),
+    CompareSingle,
 }
 
 // Where an operand is.

@@ -6,7 +6,6 @@ use crate::Flagging;
 use crate::Kind;
 use crate::Move;
 use crate::Operation;
-use crate::Singles;
 use crate::Stack;
 use crate::Strings;
 use arith::Binary;
@@ -180,10 +179,8 @@ pub fn operation(kind: Kind, opcode: usize, field: u32) -> Operation
         Kind::Bsr => Operation::Arithmetic(Arithmetic::Bits(Bits::Scan(Scan::Bsr))),
         Kind::Shld => Operation::Arithmetic(Arithmetic::Bits(Bits::Double(DoubleShift::Shld))),
         Kind::Shrd => Operation::Arithmetic(Arithmetic::Bits(Bits::Double(DoubleShift::Shrd))),
-        Kind::MoveSingle => Operation::Singles(Singles::Move),
-        Kind::ComputeSingle => Operation::Singles(Singles::Compute(compute_at(
-            (opcode % 8) as u32,
-        ))),
-        Kind::CompareSingle => Operation::Singles(Singles::Compare),
+        Kind::MoveSingle => Operation::MoveSingle,
+        Kind::ComputeSingle => Operation::ComputeSingle(compute_at((opcode % 8) as u32)),
+        Kind::CompareSingle => Operation::CompareSingle,
     }
 }

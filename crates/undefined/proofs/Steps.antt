@@ -109,7 +109,9 @@ module _ (constants : List ℕ) (p : Plan) (m : Machine) (g : Flags) (d : List �
   planned-settled (Operation.Stack op) e h = unflagged (none-left constants p m d _ e (λ r. refl)) h
   planned-settled (Operation.Branch op) e h = unflagged (none-left constants p m d _ e (λ r. refl)) h
   planned-settled (Operation.Strings op) e h = unflagged (none-left constants p m d _ e (λ r. refl)) h
-  planned-settled (Operation.Singles op) e h = unflagged (none-left constants p m d _ e (λ r. refl)) h
+  planned-settled Operation.MoveSingle e h = unflagged (none-left constants p m d _ e (λ r. refl)) h
+  planned-settled (Operation.ComputeSingle op) e h = unflagged (none-left constants p m d _ e (λ r. refl)) h
+  planned-settled Operation.CompareSingle e h = unflagged (none-left constants p m d _ e (λ r. refl)) h
 
 -- what is found at EIP
 executed-settled : (fixed : Fixed) (f : Found) (m : Machine) (g : Flags) (d : List ℕ) → DifferOnlyIn (foundUndefined fixed f m d) (m .flags) g

@@ -56,7 +56,9 @@ undefinedBy (Operation.Flagging op) m p r = []
 undefinedBy (Operation.Stack op) m p r = []
 undefinedBy (Operation.Branch op) m p r = []
 undefinedBy (Operation.Strings op) m p r = []
-undefinedBy (Operation.Singles op) m p r = []
+undefinedBy Operation.MoveSingle m p r = []
+undefinedBy (Operation.ComputeSingle op) m p r = []
+undefinedBy Operation.CompareSingle m p r = []
 
 -- what a read that is allowed gives
 unfoldable pub given : Loaded → ℕ

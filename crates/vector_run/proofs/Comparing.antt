@@ -1,6 +1,6 @@
 -- What came out against the line, a field at a time. Assumes nothing.
-use mathlib.Core.Path.{_≡_, _∙_}
-use mathlib.Core.Bool.{true, false}
+use mathlib.Core.Path.{_≡_, refl, _∙_}
+use mathlib.Core.Bool.{Bool, true, false, cond}
 use mathlib.Core.List.{List, [], _∷_, _++_}
 use Prim.Native.Nat.{ℕ, suc, _+_, _%_, _^_, _<_, _≤_}
 use native.Mathlib.Numerals.{add-one}
@@ -10,9 +10,10 @@ use lib.Seq.{drop-cons}
 use borrow.Author.Tests.{eq-eqb, ne-eqb}
 use Rattle.vector_text.specs.Hex.{valueOf, bytesOf, isHeld}
 use Rattle.vector_text.specs.Fields.{fieldOf}
+use Rattle.vector_run.specs.declared.judging.Finding.{Finding}
 use Rattle.vector_run.specs.declared.judging.Finding.the-variants.{Same, DiffersIn}
 use Rattle.vector_run.specs.Cases.{numberOf}
-use Rattle.vector_run.specs.Findings.{Told, agrees, fieldFor, firstOther, numbersFrom}
+use Rattle.vector_run.specs.Findings.{Told, agrees, fieldFor, firstOther, firstOf, numbersFrom}
 
 module _ (line : List ℕ) (k n : ℕ) (later : List Told) where
   -- a number that the line has too
@@ -36,38 +37,49 @@ module _ (line : List ℕ) (k : ℕ) (bytes : List ℕ) {text : List ℕ} (is : 
   unfolding firstOther agrees fieldFor
   area-other e = rw (← is, e)
 
--- what is told is found as what is left of the numbers, from a place on, and what follows them
-pub record Comparing (line numbers : List ℕ) (later : List Told) (i : ℕ) : Type 0 where
-  pub long : length numbers ≡ 13
-  pub rest : firstOther line (numbersFrom 17 numbers ++ later) ≡ firstOther line (numbersFrom (17 + i) (drop i numbers) ++ later)
+-- numbers are found as what is left of them, from a place on
+pub record Comparing (line numbers : List ℕ) (first i : ℕ) : Type 0 where
+  pub rest : firstOther line (numbersFrom first numbers) ≡ firstOther line (numbersFrom (first + i) (drop i numbers))
 
-module _ {line numbers : List ℕ} {later : List Told} {i : ℕ} (so : Comparing line numbers later i) (h : i < 13) where
+-- all are left
+pub compare-begins : (line numbers : List ℕ) (first : ℕ) → Comparing line numbers first 0
+compare-begins line numbers first =
+    let at-first : first + 0 ≡ first = omega arith in
+    record { rest = rw at-first }
+
+module _ {line numbers : List ℕ} {first i : ℕ} (so : Comparing line numbers first i) (h : i < length numbers) where
   -- an equal number more
-  pub compare-goes : getD numbers i 0 ≡ valueOf (fieldOf line (17 + i)) % 2 ^ 64 → Comparing line numbers later (i + 1)
+  pub compare-goes : getD numbers i 0 ≡ valueOf (fieldOf line (first + i)) % 2 ^ 64 → Comparing line numbers first (i + 1)
   unfolding numbersFrom
   compare-goes e =
-      let long = so .long in
-      let next : 17 + (i + 1) ≡ suc (17 + i) = omega arith in
+      let next : first + (i + 1) ≡ suc (first + i) = omega arith in
       record {
-        long = long;
         rest =
-            so .rest ∙ rw (drop-cons numbers i 0 (omega arith), next, add-one i)
-            (number-same line (17 + i) (getD numbers i 0) (numbersFrom (suc (17 + i)) (drop (suc i) numbers) ++ later) e);
+            so .rest ∙ rw (drop-cons numbers i 0 h, next, add-one i)
+            (number-same line (first + i) (getD numbers i 0) (numbersFrom (suc (first + i)) (drop (suc i) numbers)) e);
       }
 
   -- another number
-  pub compare-stops : (getD numbers i 0 ≡ valueOf (fieldOf line (17 + i)) % 2 ^ 64 → ⊥) → firstOther line (numbersFrom 17 numbers ++ later) ≡ DiffersIn (17 + i)
+  pub compare-stops : (getD numbers i 0 ≡ valueOf (fieldOf line (first + i)) % 2 ^ 64 → ⊥) → firstOther line (numbersFrom first numbers) ≡ DiffersIn (first + i)
   unfolding numbersFrom
   compare-stops other =
-      let long = so .long in
-      so .rest ∙ rw (drop-cons numbers i 0 (omega arith))
-      (number-other line (17 + i) (getD numbers i 0) (numbersFrom (suc (17 + i)) (drop (suc i) numbers) ++ later) other)
+      so .rest ∙ rw (drop-cons numbers i 0 h)
+      (number-other line (first + i) (getD numbers i 0) (numbersFrom (suc (first + i)) (drop (suc i) numbers)) other)
 
 -- no number is left
-pub compare-ends : {line numbers : List ℕ} {later : List Told} {i : ℕ} → Comparing line numbers later i → 13 ≤ i
-    → firstOther line (numbersFrom 17 numbers ++ later) ≡ firstOther line later
-unfolding numbersFrom
-compare-ends {line} {numbers} {later} {i} so h =
-    let long = so .long in
-    let over : length numbers ≤ i = omega arith in
-    so .rest ∙ rw (drop-of-length-le numbers over)
+pub compare-ends : {line numbers : List ℕ} {first i : ℕ} → Comparing line numbers first i → length numbers ≤ i
+    → firstOther line (numbersFrom first numbers) ≡ Same
+unfolding firstOther numbersFrom
+compare-ends {numbers} so over = so .rest ∙ rw (drop-of-length-le numbers over)
+
+-- the first of two findings, by what is told first
+one-told : (same : Bool) (found later : Finding) (k : ℕ) → cond same (firstOf found later) (DiffersIn k) ≡ firstOf (cond same found (DiffersIn k)) later
+unfolding firstOf
+one-told true found later k = refl
+one-told false found later k = refl
+
+-- of what is told and what is told later, the first that differs
+pub told-both : (line : List ℕ) (told later : List Told) → firstOther line (told ++ later) ≡ firstOf (firstOther line told) (firstOther line later)
+unfolding firstOther firstOf
+told-both line [] later = refl
+told-both line (one ∷ told) later = rw (told-both line told later) (one-told (agrees line one) (firstOther line told) (firstOther line later) (fieldFor one))

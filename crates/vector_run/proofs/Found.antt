@@ -4,7 +4,7 @@ use mathlib.Core.Bool.{true, false}
 use mathlib.Core.List.{List, [], _∷_, _++_}
 use Prim.Native.Nat.{ℕ, _%_, _^_, _≤_}
 use native.Mathlib.Omega.{arith}
-use lib.ListN.{length, getD, take}
+use lib.ListN.{length, getD, take, drop}
 use lib.Seq.{length-take-le}
 use borrow.Author.Tests.{leb-true}
 use Rattle.run.specs.Steps.{fixedTo}
@@ -17,7 +17,7 @@ use Rattle.vector_run.specs.declared.judging.Finding.{Finding}
 use Rattle.vector_run.specs.declared.judging.Finding.the-variants.{Malformed}
 use Rattle.vector_run.specs.declared.judging.Kind.{Kind}
 use Rattle.vector_run.specs.Cases.{numberOf, stateBefore, areaFits, padTo, codeOf, areaOf, constantsOf}
-use Rattle.vector_run.specs.Findings.{Told, firstOther, numbersFrom, resultsOf, ranTold, answerTold, lentFinding, runFinding, CheckFinds, checked, HexFinds, unhexed, KindFinds, SizedFinds, sized}
+use Rattle.vector_run.specs.Findings.{Told, firstOther, numbersFrom, resultsOf, singlesOf, ranTold, answerTold, lentFinding, runFinding, CheckFinds, checked, HexFinds, unhexed, KindFinds, SizedFinds, sized}
 
 -- an area filled from a field
 pub filled : (line : List ℕ) (k n : ℕ) {text after : List ℕ} → text ≡ fieldOf line k → after ≡ padded n (bytesOf text) → after ≡ padTo line k n
@@ -27,9 +27,9 @@ filled line k n is fills = rw (← is) fills
 -- what the run's call gives, compared, is its finding
 pub lent-found : (line code d : List ℕ) (size : ℕ) {text constants state told before after : List ℕ} {n budget : ℕ} {r : Finding}
     → text ≡ fieldOf line 33 → constants ≡ padded size (bytesOf text) → before ≡ stateBefore line → budget ≡ valueOf (fieldOf line 12) % 2 ^ 64
-    → Calls (callOf before (fixedTo code constants) d budget) n state after → told ≡ resultsOf n state
-    → r ≡ firstOther line (numbersFrom 17 told ++ (Told.theArea 31 after ∷ [])) → r ≡ lentFinding line code (padTo line 33 size) d
-unfolding lentFinding ranTold numberOf
+    → Calls (callOf before (fixedTo code constants) d budget) n state after → told ≡ resultsOf n state ++ singlesOf state
+    → r ≡ firstOther line (numbersFrom 17 (take 13 told) ++ (numbersFrom 42 (take 8 (drop 13 told)) ++ (Told.theArea 31 after ∷ []))) → r ≡ lentFinding line code (padTo line 33 size) d
+unfolding lentFinding ranTold resultsOf singlesOf numberOf
 lent-found line code d size is fills start steps calls results found =
     found ∙ rw (results, calls .is, calls .state-left, calls .area-left, start, steps, filled line 33 size is fills)
 

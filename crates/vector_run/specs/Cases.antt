@@ -17,9 +17,9 @@ unfoldable pub wordsFrom : ℕ → ℕ → List ℕ → List ℕ
 wordsFrom zero k line = []
 wordsFrom (suc n) k line = valueOf (fieldOf line k) % 2 ^ 32 ∷ wordsFrom n (suc k) line
 
--- the state that a run is called with: the machine, in fields 2 to 11, and two words for steps and address
+-- the state that a run is called with: the machine, in fields 2 to 11 and its singles in fields 34 to 41, and two words for steps and address
 unfoldable pub stateBefore : List ℕ → List ℕ
-stateBefore line = wordsFrom 10 2 line ++ (0 ∷ 0 ∷ [])
+stateBefore line = wordsFrom 10 2 line ++ (wordsFrom 8 34 line ++ (0 ∷ 0 ∷ []))
 
 -- some bytes more than code, constants, data or marks may have
 abbrev pub most : ℕ
@@ -47,12 +47,12 @@ constantsOf line = padTo line 33 (numberOf line 32)
 
 -- the form of a run's line
 unfoldable pub isRun : List ℕ → Bool
-isRun line = formed (fields line) (ascii "rnnnnnnnnnnwnbnbnwnnnnnnnnnnnnbnb")
+isRun line = formed (fields line) (ascii "rnnnnnnnnnnwnbnbnwnnnnnnnnnnnnbnbnnnnnnnnnnnnnnnn")
 
 -- the form of a check's line
 unfoldable pub isCheck : List ℕ → Bool
-isCheck line = formed (fields line) (ascii "c-----------nbnbn-n-----------b--")
+isCheck line = formed (fields line) (ascii "c-----------nbnbn-n-----------b------------------")
 
 -- the form of a hex file's line
 unfoldable pub isHex : List ℕ → Bool
-isHex line = formed (fields line) (ascii "h-----------nbnbn-n-----------b--")
+isHex line = formed (fields line) (ascii "h-----------nbnbn-n-----------b------------------")

@@ -39,18 +39,34 @@ unfoldable pub firstOther : List ℕ → List Told → Finding
 firstOther line [] = Same
 firstOther line (told ∷ later) = cond (agrees line told) (firstOther line later) (DiffersIn (fieldFor told))
 
+-- of two findings the first, unless it is the same: then the later one; for private functions on the way
+unfoldable pub firstOf : Finding → Finding → Finding
+firstOf Same later = later
+firstOf (DiffersIn k) later = DiffersIn k
+firstOf Malformed later = Malformed
+
 -- numbers for the fields from k on
 unfoldable pub numbersFrom : ℕ → List ℕ → List Told
 numbersFrom k [] = []
 numbersFrom k (n ∷ later) = Told.theNumber k n ∷ numbersFrom (suc k) later
 
--- what a run gives back, in the order of fields 17 to 29: the number, steps and address, and the machine, by their places in the state
-unfoldable pub resultsOf : ℕ → List ℕ → List ℕ
-resultsOf number state = number ∷ map (λ (k : ℕ). getD state k 0) (10 ∷ 11 ∷ 0 ∷ 1 ∷ 2 ∷ 3 ∷ 4 ∷ 5 ∷ 6 ∷ 7 ∷ 8 ∷ 9 ∷ [])
+-- the words of a state in some places
+abbrev pub wordsAt : List ℕ → List ℕ → List ℕ
+wordsAt state places = map (λ (k : ℕ). getD state k 0) places
 
--- what a run tells: these numbers, and the data after in field 31
+-- what a run gives back, in the order of fields 17 to 29: the number, steps and address, and the machine but for its singles
+unfoldable pub resultsOf : ℕ → List ℕ → List ℕ
+resultsOf number state = number ∷ wordsAt state (18 ∷ 19 ∷ 0 ∷ 1 ∷ 2 ∷ 3 ∷ 4 ∷ 5 ∷ 6 ∷ 7 ∷ 8 ∷ 9 ∷ [])
+
+-- the singles that a run gives back, in the order of fields 42 to 49
+unfoldable pub singlesOf : List ℕ → List ℕ
+singlesOf state = wordsAt state (10 ∷ 11 ∷ 12 ∷ 13 ∷ 14 ∷ 15 ∷ 16 ∷ 17 ∷ [])
+
+-- what a run tells: these numbers, then these singles, then the data after in field 31
 unfoldable pub ranTold : Call → List Told
-ranTold call = numbersFrom 17 (resultsOf (call .number) (call .state)) ++ (Told.theArea 31 (call .area) ∷ [])
+ranTold call =
+    numbersFrom 17 (resultsOf (call .number) (call .state))
+    ++ (numbersFrom 42 (singlesOf (call .state)) ++ (Told.theArea 31 (call .area) ∷ []))
 
 -- what a check or a hex file tells: its number in field 17, the answer in field 19, the marks or the code area after in field 31
 unfoldable pub answerTold : ℕ → ℕ → List ℕ → List Told

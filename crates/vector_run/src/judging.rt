@@ -11,10 +11,10 @@ use vector_text::fields::number_32;
 use vector_text::fields::number_64;
 ghost use mathlib.Core.Path.{_≡_};
 ghost use mathlib.Core.List.{[], _∷_, _++_};
-ghost use Prim.Native.Nat.{_<_};
-ghost use lib.ListN.{length};
+ghost use Prim.Native.Nat.{_+_, _<_, _≤_};
+ghost use lib.ListN.{length, take, drop};
 ghost use Rattle.vector_run.specs.Cases.{stateBefore, areaFits, padTo};
-ghost use Rattle.vector_run.specs.Findings.{Told, firstOther, numbersFrom, resultsOf, answerTold, lentFinding, runFinding, CheckFinds, HexFinds, KindFinds, SizedFinds, Finds};
+ghost use Rattle.vector_run.specs.Findings.{Told, firstOther, firstOf, numbersFrom, resultsOf, singlesOf, answerTold, lentFinding, runFinding, CheckFinds, HexFinds, KindFinds, SizedFinds, Finds};
 
 // What is found of a case: it comes out as its line says, or differs first in the field of a number, or its line is malformed.
 pub enum Finding {
@@ -37,8 +37,8 @@ fn wide(n: u32) -> u64
     n as u64
 }
 
-// The state that a run is called with: the machine before, in fields 2 to 11.
-fn state_before(line: &[u8]) -> [u32; 12]
+// The state that a run is called with: the machine before, in fields 2 to 11 and 34 to 41.
+fn state_before(line: &[u8]) -> [u32; 20]
     ensures { λ r. ⌜ r ≡ stateBefore (now (line .entry)) ⌝ }
 {
     [
@@ -52,19 +52,27 @@ fn state_before(line: &[u8]) -> [u32; 12]
         number_32(line, 9),
         number_32(line, 10),
         number_32(line, 11),
+        number_32(line, 34),
+        number_32(line, 35),
+        number_32(line, 36),
+        number_32(line, 37),
+        number_32(line, 38),
+        number_32(line, 39),
+        number_32(line, 40),
+        number_32(line, 41),
         0,
         0,
     ]
 }
 
-// What a run gives back, in the order of fields 17 to 29: the number, steps and address, and the machine.
-fn results(number: u32, state: [u32; 12]) -> [u32; 13]
-    ensures { λ r. ⌜ r ≡ resultsOf number state ⌝ }
+// What a run gives back, in the order of fields 17 to 29 and 42 to 49: the number, steps and address, and the machine, its singles last.
+fn results(number: u32, state: [u32; 20]) -> [u32; 21]
+    ensures { λ r. ⌜ r ≡ resultsOf number state ++ singlesOf state ⌝ }
 {
     [
         number,
-        state[10],
-        state[11],
+        state[18],
+        state[19],
         state[0],
         state[1],
         state[2],
@@ -75,7 +83,41 @@ fn results(number: u32, state: [u32; 12]) -> [u32; 13]
         state[7],
         state[8],
         state[9],
+        state[10],
+        state[11],
+        state[12],
+        state[13],
+        state[14],
+        state[15],
+        state[16],
+        state[17],
     ]
+}
+
+// Compares numbers with those of the line, from a first field on.
+fn compare_numbers(line: &[u8], told: &[u32], first: usize) -> Finding
+    requires { ⌜ first + length (now told) ≤ 50 ⌝ }
+    ensures { λ r. ⌜ r ≡ firstOther (now (line .entry)) (numbersFrom first (now (told .entry))) ⌝ }
+{
+    let mut i = 0;
+    while i < told.len() {
+        if wide(told[i]) != number_64(line, first + i) {
+            return Finding::DiffersIn(first + i);
+        }
+        i += 1;
+    }
+    Finding::Same
+}
+
+// Of two findings the first, unless it is the same: then the later one.
+fn first_of(found: Finding, later: Finding) -> Finding
+    ensures { λ r. ⌜ r ≡ firstOf found later ⌝ }
+{
+    match found {
+        Finding::Same => later,
+        Finding::DiffersIn(number) => Finding::DiffersIn(number),
+        Finding::Malformed => Finding::Malformed,
+    }
 }
 
 // The finding of an area after, in field 31, where all before it is the same.
@@ -89,17 +131,12 @@ fn compare_area(line: &[u8], area: &[u8]) -> Finding
 }
 
 // Compares what a run gives back and the data after.
-fn compare_run(line: &[u8], told: [u32; 13], area: &[u8]) -> Finding
-    ensures { λ r. ⌜ r ≡ firstOther (now (line .entry)) (numbersFrom 17 told ++ (Told.theArea 31 (now (area .entry)) ∷ [])) ⌝ }
+fn compare_run(line: &[u8], told: [u32; 21], area: &[u8]) -> Finding
+    ensures { λ r. ⌜ r ≡ firstOther (now (line .entry)) (numbersFrom 17 (take 13 told) ++ (numbersFrom 42 (take 8 (drop 13 told)) ++ (Told.theArea 31 (now (area .entry)) ∷ []))) ⌝ }
 {
-    let mut i = 0;
-    while i < 13 {
-        if wide(told[i]) != number_64(line, 17 + i) {
-            return Finding::DiffersIn(17 + i);
-        }
-        i += 1;
-    }
-    compare_area(line, area)
+    let numbers = compare_numbers(line, &told[..13], 17);
+    let singles = compare_numbers(line, &told[13..], 42);
+    first_of(numbers, first_of(singles, compare_area(line, area)))
 }
 
 // Compares what a check or a hex file answers, and the marks or the code area after.
@@ -208,13 +245,13 @@ fn judge_sized(line: &[u8], kind: Kind) -> Finding
 pub fn judge(line: &[u8]) -> Finding
     ensures { λ r. ⌜ Finds (now (line .entry)) r ⌝ }
 {
-    if has_form(line, b"rnnnnnnnnnnwnbnbnwnnnnnnnnnnnnbnb") {
+    if has_form(line, b"rnnnnnnnnnnwnbnbnwnnnnnnnnnnnnbnbnnnnnnnnnnnnnnnn") {
         return judge_sized(line, Kind::Run);
     }
-    if has_form(line, b"c-----------nbnbn-n-----------b--") {
+    if has_form(line, b"c-----------nbnbn-n-----------b------------------") {
         return judge_sized(line, Kind::Check);
     }
-    if has_form(line, b"h-----------nbnbn-n-----------b--") {
+    if has_form(line, b"h-----------nbnbn-n-----------b------------------") {
         return judge_sized(line, Kind::Hex);
     }
     Finding::Malformed

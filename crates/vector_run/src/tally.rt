@@ -22,7 +22,9 @@ fn say(n: u64, bytes: &[u8]) {
 fn say_name(number: usize) {
     let names = b"kind\teax\tecx\tedx\tebx\tesp\tebp\tesi\tedi\teip\tflags\tbudget\
         \tcode_len\tcode\tarea_len\tarea\tnumber\tsteps\taddress\
-        \teax_out\tecx_out\tedx_out\tebx_out\tesp_out\tebp_out\tesi_out\tedi_out\teip_out\tflags_out\tundefined\tarea_out\tconstants_len\tconstants";
+        \teax_out\tecx_out\tedx_out\tebx_out\tesp_out\tebp_out\tesi_out\tedi_out\teip_out\tflags_out\tundefined\tarea_out\tconstants_len\tconstants\
+        \txmm0\txmm1\txmm2\txmm3\txmm4\txmm5\txmm6\txmm7\
+        \txmm0_out\txmm1_out\txmm2_out\txmm3_out\txmm4_out\txmm5_out\txmm6_out\txmm7_out";
     io::write_all(STDOUT_FILENO, field(names, number));
 }
 

@@ -4,7 +4,7 @@ use mathlib.Core.Logic.{⊎-elim}
 use Prim.Native.Nat.{_-_, _%_, _<_}
 use native.Mathlib.Omega.{arith}
 use borrow.Author.Needs.{needs}
-use Rattle.machine.specs.Lending.{xmmOf}
+use Rattle.machine.specs.Registers.{withXmm}
 use Rattle.effect.specs.Changes.{lent}
 use Rattle.run.proofs.Going.{went, Going, begins, goes, ends-stopped, ends-used}
 use Rattle.run.proofs.Sites.{Keeping, none-kept, taken, fresh, known}
@@ -27,7 +27,7 @@ same-length : tie.Need-same-length Inv-loop μ-loop
 same-length c = c .before .before .before .before .before .before .take .kept .1 .1 .1 .1 .1 .1 .0 ∙ c .before .before .before .before .before .before .before .before .before .before .before .before .before .before .before .loop .inv .0 .long
 
 returns : tie.Need-returns Inv-loop μ-loop
-unfolding opened
+unfolding opened withXmm
 returns c =
     let slot : c .before .before .before .before .before .before .before .before .before .before .before .before .before .before .before .loop .eip % 64 < 64 = omega arith in
     let ready =
@@ -37,27 +37,27 @@ returns c =
     (c .before .before .before .before .before .before .before .before .before .before .before .if1 .came)
     in
     rw (← c .before .before .before .before .before .before .before .before .before .before .before .before .before .before .before .before .bits-of .ensures, c .machine-of .ensures)
-    (ends-stopped _ _ _ _ (c .before .before .before .before .before .before .before .before .before .before .before .before .before .before .before .loop .inv .0) (c .before .before .before .before .before .before .before .before .before .before .before .before .before .before .loop-test .taken)
+    (ends-stopped _ _ _ _ (c .before .before .before .before .before .before .before .before .before .before .before .before .before .before .before .loop .inv .0) (c .before .before .before .before .before .before .before .before .before .before .before .before .before .before .loop-test .taken) _
     (rw (c .before .before .number .given .1) at (taken (ready .tells) _ refl (c .before .before .before .before .before .before .take .ensures))))
 
 add-n : tie.Need-add-n Inv-loop μ-loop
-add-n c = record { fits = omega (arith, c .before .before .before .before .before .before .before .before .before .before .before .before .before .before .before .before .before .loop-test .taken, c .before .before .before .before .before .before .before .before .before .before .before .before .before .before .before .before .before .before .before .before .before .before .before .before .before .before .fits .budget .fits) }
+add-n c = record { fits = omega (arith, c .before .before .before .before .before .before .before .before .before .before .before .before .before .before .before .loop-test .taken, c .before .before .before .before .before .before .before .before .before .before .before .before .before .before .before .before .before .before .before .before .before .before .before .before .fits .budget .fits) }
 
 loop-less : tie.Need-loop-less Inv-loop μ-loop
 loop-less c = omega arith
 
 loop-again : tie.Need-loop-again Inv-loop μ-loop
 loop-again c =
-    let slot : c .before .before .before .before .before .before .before .before .before .before .before .before .before .before .before .before .before .before .loop .eip % 64 < 64 = omega arith in
+    let slot : c .before .before .before .before .before .before .before .before .before .before .before .before .before .before .before .before .loop .eip % 64 < 64 = omega arith in
     let ready =
     ⊎-elim
-    (λ made. fresh (c .before .before .before .before .before .before .before .before .before .before .before .before .before .before .before .before .before .before .loop .inv .1) slot (made .1 .ensures) (made .2))
-    (λ there. known (c .before .before .before .before .before .before .before .before .before .before .before .before .before .before .before .before .before .before .loop .inv .1) slot (c .before .before .before .before .before .before .before .before .before .before .before .before .before .before .before .is-for .ensures) (there .0 .left) (there .1))
-    (c .before .before .before .before .before .before .before .before .before .before .before .before .before .before .if1 .came)
+    (λ made. fresh (c .before .before .before .before .before .before .before .before .before .before .before .before .before .before .before .before .loop .inv .1) slot (made .1 .ensures) (made .2))
+    (λ there. known (c .before .before .before .before .before .before .before .before .before .before .before .before .before .before .before .before .loop .inv .1) slot (c .before .before .before .before .before .before .before .before .before .before .before .before .before .is-for .ensures) (there .0 .left) (there .1))
+    (c .before .before .before .before .before .before .before .before .before .before .before .before .if1 .came)
     in (
-      rw (c .before .before .make .ensures, c .make-single .ensures)
-          (goes _ _ _ _ (c .before .before .before .before .before .before .before .before .before .before .before .before .before .before .before .before .before .before .loop .inv .0) (c .before .before .before .before .before .before .before .before .before .before .before .before .before .before .before .before .before .loop-test .taken) (c .before .before .before .before .before .before .before .before .before .take .kept .1 .1 .1 .1 .1 .1 .0)
-          (went _ _ (rw (c .before .before .before .before .before .c .given .1) at (taken (ready .tells) _ refl (c .before .before .before .before .before .before .before .before .before .take .ensures))))),
+      rw (c .make .ensures)
+          (goes _ _ _ _ (c .before .before .before .before .before .before .before .before .before .before .before .before .before .before .before .before .loop .inv .0) (c .before .before .before .before .before .before .before .before .before .before .before .before .before .before .before .loop-test .taken) (c .before .before .before .before .before .before .before .take .kept .1 .1 .1 .1 .1 .1 .0)
+          (went _ _ (rw (c .before .before .before .c .given .1) at (taken (ready .tells) _ refl (c .before .before .before .before .before .before .before .take .ensures))))),
       ready .keeping,
     )
 
@@ -88,7 +88,6 @@ steps-spec =
     (λ c. search needs)
     (λ c κs. search needs)
     (λ c. search needs)
-    (λ c κs. search needs)
     (λ c κs. search needs)
     (λ c. search needs)
     (λ c κs. search needs)

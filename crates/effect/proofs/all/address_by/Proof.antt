@@ -32,6 +32,14 @@ returns-7 : tie.Need-returns-7
 unfolding addressBy
 returns-7 c = λ eip f. simp (c .enum-told6 .given .1)
 
+returns-8 : tie.Need-returns-8
+unfolding addressBy
+returns-8 c = λ eip f. simp (c .enum-told7 .given .1)
+
+returns-9 : tie.Need-returns-9
+unfolding addressBy
+returns-9 c = λ eip f. simp (c .enum-told8 .given .1)
+
 pub address-by-spec : {M : Type 1} → statement M
 address-by-spec =
     tie.close
@@ -44,10 +52,14 @@ address-by-spec =
     (λ c. search needs)
     (λ c. search needs)
     (λ c. search needs)
+    (λ c. search needs)
+    (λ c. search needs)
     returns
     returns-2
     returns-3
     returns-4
     returns-5
     returns-6
-    returns-7)
+    returns-7
+    returns-8
+    returns-9)

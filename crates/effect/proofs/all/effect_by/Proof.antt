@@ -46,12 +46,24 @@ returns-6 c =
 
 returns-7 : tie.Need-returns-7
 unfolding effectBy
-returns-7 c = rw (c .before .before .operation7 .given .1) (c .single-effect .ensures _ _)
+returns-7 c = rw (c .before .enum-told .given .1) (c .single-moved .ensures _ _)
+
+returns-8 : tie.Need-returns-8
+unfolding effectBy
+returns-8 c = rw (c .before .before .operation7 .given .1) (c .single-computed .ensures _ _)
+
+returns-9 : tie.Need-returns-9
+unfolding effectBy
+returns-9 c = rw (c .before .enum-told2 .given .1) (c .single-compared .ensures _ _)
 
 pub effect-by-spec : {M : Type 1} → statement M
 effect-by-spec =
     tie.close
     (tie.spec
+    (λ c. search needs)
+    (λ c κs. search needs)
+    (λ c. search needs)
+    (λ c κs. search needs)
     (λ c. search needs)
     (λ c κs. search needs)
     (λ c. search needs)
@@ -72,4 +84,6 @@ effect-by-spec =
     returns-4
     returns-5
     returns-6
-    returns-7)
+    returns-7
+    returns-8
+    returns-9)

@@ -32,6 +32,14 @@ returns-7 : tie.Need-returns-7
 unfolding readsBy
 returns-7 c = λ eip f. simp (c .single-reads .ensures, c .before .enum-told3 .given .1)
 
+returns-8 : tie.Need-returns-8
+unfolding readsBy
+returns-8 c = λ eip f. simp (c .single-reads2 .ensures, c .before .enum-told4 .given .1)
+
+returns-9 : tie.Need-returns-9
+unfolding readsBy
+returns-9 c = λ eip f. simp (c .single-reads3 .ensures, c .before .enum-told5 .given .1)
+
 pub reads-by-spec : {M : Type 1} → statement M
 reads-by-spec =
     tie.close
@@ -49,10 +57,16 @@ reads-by-spec =
     (λ c κs. search needs)
     (λ c. search needs)
     (λ c κs. search needs)
+    (λ c. search needs)
+    (λ c κs. search needs)
+    (λ c. search needs)
+    (λ c κs. search needs)
     returns
     returns-2
     returns-3
     returns-4
     returns-5
     returns-6
-    returns-7)
+    returns-7
+    returns-8
+    returns-9)

@@ -8,10 +8,21 @@ use Rattle.run.proofs.step.step.Tie as tie
 
 returns : tie.Need-returns
 returns c =
-    let m = c .before .before .before .before .before .before .before .before .before .before .before .before .before .before .before .before .args .m in
-    rw (c .answer .ensures)
-    (taken (c .before .before .before .before .before .before .before .before .site-at .ensures) _ refl
-    (rw (c .before .before .before .before .before .pack .ensures .is, unpacked (m .flags), c .before .before .before .before .before .before .before .before .before .before .bits-of .ensures) at (c .before .before .before .take .ensures)))
+    let m = c .before .before .before .before .before .before .before .before .before .before .before .before .before .before .before .before .before .before .args .m in
+    rw (c .answer .ensures, c .before .with-xmm .ensures, c .before .before .xmm-of .ensures)
+    (taken (c .before .before .before .before .before .before .before .before .before .before .site-at .ensures) _ refl
+    (rw (c .before .before .before .before .before .before .before .pack .ensures .is, unpacked (m .flags), c .before .before .before .before .before .before .before .before .before .before .before .before .bits-of .ensures) at (c .before .before .before .before .before .take .ensures)))
 
 pub step-spec : {M : Type 1} → statement M
-step-spec = tie.close (tie.spec (λ c κs. search needs) (λ c κs. search needs) (λ c κs. search needs) (λ c κs. search needs) (λ c κs. search needs) (λ c. search needs) returns)
+step-spec =
+    tie.close
+    (tie.spec
+    (λ c κs. search needs)
+    (λ c κs. search needs)
+    (λ c κs. search needs)
+    (λ c κs. search needs)
+    (λ c κs. search needs)
+    (λ c κs. search needs)
+    (λ c κs. search needs)
+    (λ c. search needs)
+    returns)

@@ -1,57 +1,41 @@
--- `vector_run::judging::compare_run` meets its contract: the numbers still to come decide. Assumes nothing.
-use mathlib.Core.Path.{refl, sym, _∙_}
-use mathlib.Core.List.{[], _∷_}
-use Prim.Native.Nat.{_≤_, _-_}
-use native.Mathlib.Omega.{arith}
+-- `vector_run::judging::compare_run` meets its contract: the numbers, the singles and the data, the first that differs. Assumes nothing.
+use mathlib.Core.Path.{_≡_}
+use lib.ListN.{length, length-take}
 use borrow.Author.Needs.{needs}
-use Rattle.vector_run.specs.Findings.{Told}
-use Rattle.vector_run.proofs.Comparing.{Comparing, compare-goes, compare-stops, compare-ends}
+use Rattle.vector_run.specs.Findings.{numbersFrom}
+use Rattle.vector_run.proofs.Comparing.{told-both}
 use Rattle.vector_run.proofs.judging.compare_run.Statement.{statement}
 use Rattle.vector_run.proofs.judging.compare_run.Tie as tie
 
-abbrev Inv-loop : tie.InvT-loop
-Inv-loop line area told i₀ i = (i ≤ 13) × Comparing line told (Told.theArea 31 area ∷ []) i
+slice-aggregate-compare-numbers : tie.Need-slice-aggregate-compare-numbers
+slice-aggregate-compare-numbers c =
+    let told = c .before .before .before .args .t2 in
+    let long : length told ≡ 21 = search needs in
+    rw (length-take _ told, long)
 
-abbrev μ-loop : tie.MeasureT-loop
-μ-loop line area told i₀ i = 13 - i
+compare-numbers-requires : tie.Need-compare-numbers-requires
+compare-numbers-requires c κs =
+    let told = c .before .before .before .args .t2 in
+    let long : length told ≡ 21 = search needs in
+    rw (length-take _ told, long) (search needs)
 
-loop-holds : tie.Need-loop-holds Inv-loop μ-loop
-loop-holds c = (search needs, record { long = search needs; rest = refl })
-
-array-read-wide : tie.Need-array-read-wide Inv-loop μ-loop
-array-read-wide c = let long = c .before .loop .inv .1 .long in search needs
-
-returns : tie.Need-returns Inv-loop μ-loop
+returns : tie.Need-returns
 returns c =
-    sym (compare-stops (c .before .before .before .before .loop .inv .1) (omega arith)
-    (λ e. c .if1 .taken (c .before .before .wide .ensures ∙ e ∙ sym (c .before .number-64 .ensures))))
-
-loop-again : tie.Need-loop-again Inv-loop μ-loop
-loop-again c = (
-  search needs,
-  compare-goes (c .before .before .before .before .loop .inv .1) (omega arith)
-      (sym (c .before .before .wide .ensures) ∙ c .if1 .left ∙ c .before .number-64 .ensures),
-)
-
-returns-2 : tie.Need-returns-2 Inv-loop μ-loop
-returns-2 c = c .compare-area .ensures ∙ sym (compare-ends (c .before .before .loop .inv .1) (c .before .loop-test .left))
+    rw (told-both _ (numbersFrom 17 _) _, told-both _ (numbersFrom 42 _) _)
+    (simp (c .first-of2 .ensures, c .before .first-of .ensures, c .before .before .compare-area .ensures, c .before .before .before .compare-numbers2 .ensures, c .before .before .before .before .before .before .compare-numbers .ensures))
 
 pub compare-run-spec : {M : Type 1} → statement M
 compare-run-spec =
     tie.close
     (tie.spec
-    Inv-loop
-    μ-loop
-    loop-holds
     (λ c. search needs)
-    array-read-wide
+    slice-aggregate-compare-numbers
+    compare-numbers-requires
+    (λ c. search needs)
+    (λ c. search needs)
+    (λ c. search needs)
     (λ c κs. search needs)
-    (λ c. search needs)
     (λ c κs. search needs)
-    (λ c. search needs)
-    returns
-    (λ c. search needs)
-    (λ c. search needs)
-    loop-again
     (λ c κs. search needs)
-    returns-2)
+    (λ c κs. search needs)
+    returns)
