@@ -79,7 +79,12 @@ one-told true found later k = refl
 one-told false found later k = refl
 
 -- of what is told and what is told later, the first that differs
-pub told-both : (line : List ℕ) (told later : List Told) → firstOther line (told ++ later) ≡ firstOf (firstOther line told) (firstOther line later)
+told-both : (line : List ℕ) (told later : List Told) → firstOther line (told ++ later) ≡ firstOf (firstOther line told) (firstOther line later)
 unfolding firstOther firstOf
 told-both line [] later = refl
 told-both line (one ∷ told) later = rw (told-both line told later) (one-told (agrees line one) (firstOther line told) (firstOther line later) (fieldFor one))
+
+-- three findings, of what is told one after another
+pub told-three : (line : List ℕ) (a b c : List Told) {x y z later r : Finding} → x ≡ firstOther line a → y ≡ firstOther line b → z ≡ firstOther line c
+    → later ≡ firstOf y z → r ≡ firstOf x later → r ≡ firstOther line (a ++ (b ++ c))
+told-three line a b c is-a is-b is-c behind found = found ∙ rw (behind, is-a, is-b, is-c, told-both line a (b ++ c), told-both line b c)

@@ -2,8 +2,7 @@
 use mathlib.Core.Path.{_≡_}
 use lib.ListN.{length, length-take}
 use borrow.Author.Needs.{needs}
-use Rattle.vector_run.specs.Findings.{numbersFrom}
-use Rattle.vector_run.proofs.Comparing.{told-both}
+use Rattle.vector_run.proofs.Comparing.{told-three}
 use Rattle.vector_run.proofs.judging.compare_run.Statement.{statement}
 use Rattle.vector_run.proofs.judging.compare_run.Tie as tie
 
@@ -21,8 +20,8 @@ compare-numbers-requires c κs =
 
 returns : tie.Need-returns
 returns c =
-    rw (told-both _ (numbersFrom 17 _) _, told-both _ (numbersFrom 42 _) _)
-    (simp (c .first-of2 .ensures, c .before .first-of .ensures, c .before .before .compare-area .ensures, c .before .before .before .compare-numbers2 .ensures, c .before .before .before .before .before .before .compare-numbers .ensures))
+    told-three _ _ _ _ (c .before .before .before .before .before .before .compare-numbers .ensures) (c .before .before .before .compare-numbers2 .ensures) (c .before .before .compare-area .ensures)
+    (c .before .first-of .ensures) (c .first-of2 .ensures)
 
 pub compare-run-spec : {M : Type 1} → statement M
 compare-run-spec =
