@@ -31,27 +31,21 @@ four-sets l i a b c d =
     rw (one, two, three) refl
 
 -- twelve words, four at a time, are the rest of a state
-pub rest-sets : (state : List ℕ) (m : Lent) (steps address : ℕ)
-    → sets
-    (sets (sets state 8 (m .eip ∷ m .word ∷ bitsIn (m .xmm) 0 ∷ bitsIn (m .xmm) 1 ∷ [])) 12
-    (bitsIn (m .xmm) 2 ∷ bitsIn (m .xmm) 3 ∷ bitsIn (m .xmm) 4 ∷ bitsIn (m .xmm) 5 ∷ []))
-    16
-    (bitsIn (m .xmm) 6 ∷ bitsIn (m .xmm) 7 ∷ steps ∷ address ∷ [])
-    ≡ sets state 8 (restOf m steps address)
-rest-sets state m steps address = refl
+pub rest-put : (state : List ℕ) {one two three : List ℕ} (m : Lent) (steps address : ℕ)
+    → one ≡ sets state 8 (m .eip ∷ m .word ∷ bitsIn (m .xmm) 0 ∷ bitsIn (m .xmm) 1 ∷ [])
+    → two ≡ sets one 12 (bitsIn (m .xmm) 2 ∷ bitsIn (m .xmm) 3 ∷ bitsIn (m .xmm) 4 ∷ bitsIn (m .xmm) 5 ∷ [])
+    → three ≡ sets two 16 (bitsIn (m .xmm) 6 ∷ bitsIn (m .xmm) 7 ∷ steps ∷ address ∷ [])
+    → three ≡ sets state 8 (restOf m steps address)
+rest-put state m steps address first second third = rw (third, second, first) refl
 
 -- eight words, four at a time, and the rest are a whole state
-pub handed : (state : List ℕ) (r : Ran) → length state ≡ 20
-    → sets
-    (sets
-    (sets state 0 (getD (r .machine .regs) 0 0 ∷ getD (r .machine .regs) 1 0 ∷ getD (r .machine .regs) 2 0 ∷ getD (r .machine .regs) 3 0 ∷ []))
-    4
-    (getD (r .machine .regs) 4 0 ∷ getD (r .machine .regs) 5 0 ∷ getD (r .machine .regs) 6 0 ∷ getD (r .machine .regs) 7 0 ∷ []))
-    8
-    (restOf (r .machine) (r .steps) (r .address))
-    ≡ stateOf r
+pub handed : (state : List ℕ) {one two three : List ℕ} (r : Ran) → length state ≡ 20
+    → one ≡ sets state 0 (getD (r .machine .regs) 0 0 ∷ getD (r .machine .regs) 1 0 ∷ getD (r .machine .regs) 2 0 ∷ getD (r .machine .regs) 3 0 ∷ [])
+    → two ≡ sets one 4 (getD (r .machine .regs) 4 0 ∷ getD (r .machine .regs) 5 0 ∷ getD (r .machine .regs) 6 0 ∷ getD (r .machine .regs) 7 0 ∷ [])
+    → three ≡ sets two 8 (restOf (r .machine) (r .steps) (r .address))
+    → three ≡ stateOf r
 unfolding stateOf
-handed state r e = sets-whole (stateOf r) state e
+handed state r long first second third = rw (third, second, first) (sets-whole (stateOf r) state long)
 
 module _ (state : List ℕ) (fixed : Fixed) (d : List ℕ) (budget : ℕ) where
   -- a state of another length: 90, and nothing is changed

@@ -5,7 +5,7 @@ use mathlib.Core.Logic.{_⊎_, inl, inr}
 use Prim.Native.Nat.{ℕ, _%_, _^_, _<_}
 use native.Mathlib.Omega.{arith}
 use lib.Dec.{T, ltb, eqb}
-use lib.Ieee.{Float, nan, inf, fin, binary32, lt, ne, isNan, nanBits, ofBits, ofFields, odd}
+use lib.Ieee.{Float, nan, inf, fin, binary32, lt, ne, isNan, nanBits, ofBits, toBits, ofFields, odd}
 use lib.Ieee.Bits.{nanBits-above}
 use lib.Ieee.Compare.{differs-from-itself, nan-differs}
 use borrow.Author.Tests.{eqb-true, eqb-false}
@@ -28,6 +28,11 @@ unfolding isNan
 same nan e = absurd (true≢false (sym nan-differs ∙ e))
 same (inf s) e = refl
 same (fin s m d) e = refl
+
+-- of a number the result's bits are its own
+pub numbered : (x : Float) → isNan x ≡ false → toBits binary32 x ≡ resultOf x
+unfolding resultOf
+numbered x number = rw number refl
 
 -- a zero is one of two
 zeros : (a : ℕ) → a < 2 ^ 32 → a % 2 ^ 31 ≡ 0 → (a ≡ 0) ⊎ (a ≡ 2 ^ 31)
@@ -101,12 +106,23 @@ module _ (a b : ℕ) where
         by true e = rw (level e) refl
         by false e = refl
 
-    -- the lesser and the greater of two numbers
-    pub lesser : a < 2 ^ 32 → b < 2 ^ 32 → chosen lt a b ≡ cond (lt (number a) (number b)) a b
-    lesser small-a small-b = chosen-number lt (level a b small-a small-b)
+    module _ (small-a : a < 2 ^ 32) (small-b : b < 2 ^ 32) where
+      -- the lesser of two numbers is the first if it lies below the second, else the second
+      pub lesser-first : lt (number a) (number b) ≡ true → a ≡ chosen lt a b
+      lesser-first below = rw (chosen-number lt (level a b small-a small-b), below) refl
 
-    pub greater : a < 2 ^ 32 → b < 2 ^ 32 → chosen (λ x y. lt y x) a b ≡ cond (lt (number b) (number a)) a b
-    greater small-a small-b = chosen-number (λ x y. lt y x) (λ both. level b a small-b small-a (turned (isZero a) (isZero b) both))
+      pub lesser-second : lt (number a) (number b) ≡ false → b ≡ chosen lt a b
+      lesser-second not-below = rw (chosen-number lt (level a b small-a small-b), not-below) refl
+
+      -- the greater is the first if the second lies below it, else the second
+      greater : chosen (λ x y. lt y x) a b ≡ cond (lt (number b) (number a)) a b
+      greater = chosen-number (λ x y. lt y x) (λ both. level b a small-b small-a (turned (isZero a) (isZero b) both))
+
+      pub greater-first : lt (number b) (number a) ≡ true → a ≡ chosen (λ x y. lt y x) a b
+      greater-first above = rw (greater, above) refl
+
+      pub greater-second : lt (number b) (number a) ≡ false → b ≡ chosen (λ x y. lt y x) a b
+      greater-second not-above = rw (greater, not-above) refl
 
     -- of two that are compared
     pub compared-number : (f : Flags) → compared a b f

@@ -7,8 +7,7 @@ use Rattle.sangolid.proofs.hand_back.Tie as tie
 returns : tie.Need-returns
 returns c =
     let start = c .before .before .before .before .before .before .before .before .before .before .before .before .before .before .before .before in
-    rw (c .before .before .put-rest .ensures, c .before .before .before .before .before .before .before .put-four2 .ensures, c .before .before .before .before .before .before .before .before .before .before .before .put-four .ensures)
-    (handed (start .args .state .now) (start .args .ran) (start .pre .0))
+    handed (start .args .state .now) (start .args .ran) (start .pre .0) (c .before .before .before .before .before .before .before .before .before .before .before .put-four .ensures) (c .before .before .before .before .before .before .before .put-four2 .ensures) (c .before .before .put-rest .ensures)
 
 pub hand-back-spec : {M : Type 1} → statement M
 hand-back-spec =

@@ -1,16 +1,15 @@
 -- `sangolid::put_rest` meets its contract: twelve words, four at a time. Assumes nothing.
 use borrow.Author.Needs.{needs}
 use Rattle.machine.specs.Registers.{bitsIn}
-use Rattle.sangolid.proofs.States.{rest-sets}
+use Rattle.sangolid.proofs.States.{rest-put}
 use Rattle.sangolid.proofs.put_rest.Statement.{statement}
 use Rattle.sangolid.proofs.put_rest.Tie as tie
 
 returns : tie.Need-returns
 unfolding bitsIn
 returns c =
-    let start = c .before .before .before .before .before .before .before .before .before .before .before .before .before .before in
-    rw (c .before .before .put-four3 .ensures, c .before .before .before .before .before .before .put-four2 .ensures, c .before .before .before .before .before .before .before .before .before .before .put-four .ensures)
-    (rest-sets (start .args .state .now) (start .args .m) (start .args .steps) (start .args .address))
+    let a = c .before .before .before .before .before .before .before .before .before .before .before .before .before .before .args in
+    rest-put (a .state .now) (a .m) (a .steps) (a .address) (c .before .before .before .before .before .before .before .before .before .before .put-four .ensures) (c .before .before .before .before .before .before .put-four2 .ensures) (c .before .before .put-four3 .ensures)
 
 pub put-rest-spec : {M : Type 1} → statement M
 put-rest-spec =

@@ -1,9 +1,8 @@
 -- `scalar::of_numbers` meets its contract: an operation an arm. Assumes nothing.
-use mathlib.Core.Path.{refl}
 use borrow.Author.Needs.{needs}
 use Rattle.scalar.proofs.of_numbers.Statement.{statement}
 use Rattle.scalar.proofs.of_numbers.Tie as tie
-use Rattle.scalar.proofs.Numbers.{no-nan, rounded-number, lesser, greater}
+use Rattle.scalar.proofs.Numbers.{no-nan, rounded-number, lesser-first, lesser-second, greater-first, greater-second}
 use Rattle.scalar.specs.Singles.{number, computed}
 
 float-from-bits-x : tie.Need-float-from-bits-x
@@ -28,13 +27,13 @@ returns-4 : tie.Need-returns-4
 unfolding number computed
 returns-4 c =
     let start = c .before .before .before in
-    rw (c .before .enum-told4 .given .1, lesser (start .args .a) (start .args .b) (start .pre .0) (start .pre .1) (start .fits .a .fits) (start .fits .b .fits), c .if1 .taken) refl
+    rw (c .before .enum-told4 .given .1) (lesser-first (start .args .a) (start .args .b) (start .pre .0) (start .pre .1) (start .fits .a .fits) (start .fits .b .fits) (c .if1 .taken))
 
 returns-5 : tie.Need-returns-5
 unfolding number computed
 returns-5 c =
     let start = c .before .before .before in
-    rw (c .before .enum-told4 .given .1, lesser (start .args .a) (start .args .b) (start .pre .0) (start .pre .1) (start .fits .a .fits) (start .fits .b .fits), c .if1 .left) refl
+    rw (c .before .enum-told4 .given .1) (lesser-second (start .args .a) (start .args .b) (start .pre .0) (start .pre .1) (start .fits .a .fits) (start .fits .b .fits) (c .if1 .left))
 
 returns-6 : tie.Need-returns-6
 unfolding number computed
@@ -44,13 +43,13 @@ returns-7 : tie.Need-returns-7
 unfolding number computed
 returns-7 c =
     let start = c .before .before .before in
-    rw (c .before .enum-told6 .given .1, greater (start .args .a) (start .args .b) (start .pre .0) (start .pre .1) (start .fits .a .fits) (start .fits .b .fits), c .if2 .taken) refl
+    rw (c .before .enum-told6 .given .1) (greater-first (start .args .a) (start .args .b) (start .pre .0) (start .pre .1) (start .fits .a .fits) (start .fits .b .fits) (c .if2 .taken))
 
 returns-8 : tie.Need-returns-8
 unfolding number computed
 returns-8 c =
     let start = c .before .before .before in
-    rw (c .before .enum-told6 .given .1, greater (start .args .a) (start .args .b) (start .pre .0) (start .pre .1) (start .fits .a .fits) (start .fits .b .fits), c .if2 .left) refl
+    rw (c .before .enum-told6 .given .1) (greater-second (start .args .a) (start .args .b) (start .pre .0) (start .pre .1) (start .fits .a .fits) (start .fits .b .fits) (c .if2 .left))
 
 pub of-numbers-spec : {M : Type 1} → statement M
 of-numbers-spec =
