@@ -22,11 +22,11 @@ holding regs eip f = machineOf regs [] eip f
 unfoldable pub xmmOf : List ℕ → List Xmm
 xmmOf xmm = map (λ (n : ℕ). record { bits = n }) xmm
 
--- a is what `of` gives of each machine with these registers, wherever it is and whatever its flags are
+-- a is what `of` gives of each machine with these registers and no singles, wherever it is and whatever its flags are
 abbrev pub Gives : {A : Type 0} → List ℕ → (Machine → A) → A → Type 0
 Gives regs of a = (eip : ℕ) (f : Flags) → of (holding regs eip f) ≡ a
 
--- of each machine with these registers `of` makes the one with those, at the same place and with the same flags
+-- of each machine with these registers and no singles `of` makes the one with those, at the same place and with the same flags
 abbrev pub Makes : List ℕ → (Machine → Machine) → List ℕ → Type 0
 Makes regs of after = (eip : ℕ) (f : Flags) → of (holding regs eip f) ≡ holding after eip f
 

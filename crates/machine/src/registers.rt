@@ -23,7 +23,7 @@ use flags::Flags;
 use scalar::Xmm;
 use width::Size;
 
-// The machine as a value, its flags apart. A run holds registers, EIP and the flags word each by itself.
+// The machine as a value, its flags apart. A run holds registers, the bits of XMM registers, EIP and the flags word each by itself.
 pub struct Machine {
     pub regs: [u32; 8],
     pub xmm: [Xmm; 8],
