@@ -26,7 +26,7 @@ gives op x y z = run (step (0xF3 ∷ 0x0F ∷ op ∷ 0xC1 ∷ []) (floating 0 0 
 -- ADDSS 58, MULSS 59, SUBSS 5C, DIVSS 5E
 unfoldable pub rounded-singles : List Case
 rounded-singles =
-    -- 1 / 3, rounded up; 2 / 3, rounded up; 1 / 10, rounded up; 1 / 5 - 1 / 10 is exact
+    -- 1 / 3 and 2 / 3, rounded up; the number nearest to 1 / 5 less the one nearest to 1 / 10 is exact
     gives 0x5E 0x3F80_0000 0x4040_0000 0x3EAA_AAAB
     ∷ gives 0x5E 0x4000_0000 0x4040_0000 0x3F2A_AAAB
     ∷ gives 0x5C 0x3E4C_CCCD 0x3DCC_CCCD 0x3DCC_CCCD
