@@ -1,17 +1,15 @@
 -- A step of an instruction that is none of those on singles is the same whatever the singles are, and leaves them. Assumes nothing.
 use mathlib.Core.Path.{_≡_, refl}
-use mathlib.Core.Bool.{Bool, true, false, cond}
+use mathlib.Core.Bool.{false}
 use mathlib.Core.List.{List}
 use Prim.Native.Nat.{ℕ, _-_}
 use lib.Dec.{eqb}
 use Rattle.scalar.specs.declared.Xmm.{Xmm}
 use Rattle.machine.specs.declared.registers.Machine.{Machine}
-use Rattle.machine.specs.declared.memory.Loaded.{Loaded}
-use Rattle.machine.specs.declared.memory.Loaded.the-variants.{Value}
 use Rattle.machine.specs.declared.memory.Stored.{Stored}
 use Rattle.machine.specs.declared.memory.Stored.the-variants.{Done}
 use Rattle.machine.specs.Registers.{withXmm}
-use Rattle.machine.specs.Memory.{loadOf, storedOf}
+use Rattle.machine.specs.Memory.{storedOf}
 use Rattle.grammar.specs.Decoding.{decodeOf}
 use Rattle.grammar.specs.declared.instruction.Decoded.{Decoded}
 use Rattle.grammar.specs.declared.instruction.Found.{Found}
@@ -21,14 +19,15 @@ use Rattle.plan.specs.Plans.{planOf}
 use Rattle.effect.specs.declared.outcome.Outcome.{Outcome}
 use Rattle.effect.specs.declared.outcome.Outcome.the-variants.{Becomes, Writes, Sets, Faults}
 use Rattle.effect.specs.declared.outcome.Reads.{Reads}
-use Rattle.effect.specs.declared.outcome.Reads.the-variants.{Nothing, One, Two}
 use Rattle.effect.specs.Outcomes.{Effect}
 use Rattle.effect.specs.Changes.{framed}
 use Rattle.effect.specs.Singles.{onSingles}
 use Rattle.effect.specs.All.{readsBy, effectBy}
+use Rattle.effect.proofs.Choosing.{chosen-both}
 use Rattle.effect.proofs.Framing.{effective-framed, address-framed, reads-framed, framing, puts-none}
-use Rattle.run.specs.Steps.{Fixed, Moved, stop, stored, committed, finished, loaded, performed, operandAddress, planned, executed, home, inside, stepOf}
+use Rattle.run.specs.Steps.{Fixed, stop, stored, committed, finished, performed, operandAddress, planned, executed, home, inside, stepOf}
 use Rattle.run.specs.Beside.{beside}
+use Rattle.run.proofs.Reading.{performed-both}
 
 module _ (xmm : List Xmm) (m : Machine) (d : List ℕ) where
   -- a write
@@ -45,12 +44,6 @@ module _ (xmm : List Xmm) (m : Machine) (d : List ℕ) where
   committed-beside Sets e none = absurd (none refl)
   committed-beside Faults e none = refl
 
-  -- a read, and what follows
-  loaded-beside : (answer : Loaded) (go go′ : ℕ → Moved) → ((v : ℕ) → go′ v ≡ beside xmm (go v)) → loaded answer go′ ≡ beside xmm (loaded answer go)
-  unfolding loaded beside
-  loaded-beside (Value v) go go′ h = h v
-  loaded-beside (Loaded.Outside b) go go′ h = refl
-
   module _ (p : Plan) (other : onSingles (p .operation) ≡ false) where
     -- the effect of what was read
     finished-beside : (a r s : ℕ) → finished p (withXmm m xmm) a d r s ≡ beside xmm (finished p m a d r s)
@@ -61,11 +54,9 @@ module _ (xmm : List Xmm) (m : Machine) (d : List ℕ) where
 
     -- the reads, and then the effect
     performed-beside : (constants : List ℕ) (reads : Reads) (a : ℕ) → performed constants reads p (withXmm m xmm) a d ≡ beside xmm (performed constants reads p m a d)
-    unfolding performed
-    performed-beside constants Nothing a = finished-beside a 0 0
-    performed-beside constants (One w b) a = loaded-beside (loadOf constants d w b) _ _ (λ r. finished-beside a r 0)
-    performed-beside constants (Two w b c) a =
-        loaded-beside (loadOf constants d w b) _ _ (λ r. loaded-beside (loadOf constants d w c) _ _ (λ s. finished-beside a r s))
+    unfolding beside
+    performed-beside constants reads a =
+        performed-both (λ v v′. v′ ≡ beside xmm v) constants d (λ w b c is. refl) reads p m (withXmm m xmm) a (λ r s first. finished-beside a r s)
 
     -- where the operand in memory is
     address-beside : operandAddress p (withXmm m xmm) ≡ operandAddress p m
@@ -84,11 +75,6 @@ abbrev pub Plain : Fixed → Machine → Type 0
 Plain fixed m = (i : Decoded) → decodeOf (fixed .code) (m .eip - codeBase) ≡ Found.Instruction i → onSingles ((planOf (m .eip) i) .operation) ≡ false
 
 module _ (fixed : Fixed) (xmm : List Xmm) (m : Machine) (d : List ℕ) where
-  -- either of two ways
-  either-beside : (b : Bool) (v w : Moved) {v′ w′ : Moved} → v′ ≡ beside xmm v → w′ ≡ beside xmm w → cond b v′ w′ ≡ beside xmm (cond b v w)
-  either-beside true v w h k = h
-  either-beside false v w h k = k
-
   -- what is found at EIP
   executed-beside : (f : Found) → ((i : Decoded) → f ≡ Found.Instruction i → onSingles ((planOf (m .eip) i) .operation) ≡ false)
       → executed fixed f (withXmm m xmm) d ≡ beside xmm (executed fixed f m d)
@@ -101,6 +87,5 @@ module _ (fixed : Fixed) (xmm : List Xmm) (m : Machine) (d : List ℕ) where
   pub step-beside : Plain fixed m → stepOf fixed (withXmm m xmm) d ≡ beside xmm (stepOf fixed m d)
   unfolding withXmm stepOf beside
   step-beside plain =
-      let found = decodeOf (fixed .code) (m .eip - codeBase) in
-      either-beside (eqb (m .eip) home) (stop 1 (m .eip)) (cond (inside (fixed .code) (m .eip)) (executed fixed found m d) (stop 2 (m .eip))) refl
-      (either-beside (inside (fixed .code) (m .eip)) (executed fixed found m d) (stop 2 (m .eip)) (executed-beside found plain) refl)
+      chosen-both (λ v v′. v′ ≡ beside xmm v) (eqb (m .eip) home) {x = stop 1 (m .eip)} refl
+      (chosen-both (λ v v′. v′ ≡ beside xmm v) (inside (fixed .code) (m .eip)) {y = stop 2 (m .eip)} (executed-beside (decodeOf (fixed .code) (m .eip - codeBase)) plain) refl)

@@ -1,5 +1,6 @@
 -- The laws of `run`. Assumes nothing.
 pub mod Commits
+pub mod Reading
 pub mod Framing
 pub mod Places
 pub mod Sites

@@ -11,7 +11,6 @@ use Rattle.width.specs.declared.Size.{Size}
 use Rattle.flags.specs.Word.{passes}
 use Rattle.machine.specs.declared.registers.Machine.{Machine}
 use Rattle.machine.specs.declared.memory.Loaded.{Loaded}
-use Rattle.machine.specs.declared.memory.Loaded.the-variants.{Value}
 use Rattle.machine.specs.declared.memory.Stored.{Stored}
 use Rattle.machine.specs.declared.memory.Stored.the-variants.{Done}
 use Rattle.machine.specs.Memory.{loadOf, storedOf}
@@ -25,12 +24,12 @@ use Rattle.effect.specs.declared.outcome.Outcome.{Outcome}
 use Rattle.effect.specs.declared.outcome.Outcome.the-variants.{Becomes, Writes, Sets, Faults}
 use Rattle.effect.specs.Outcomes.{Effect}
 use Rattle.effect.specs.declared.outcome.Reads.{Reads}
-use Rattle.effect.specs.declared.outcome.Reads.the-variants.{Nothing, One, Two}
 use Rattle.effect.proofs.Choosing.{chosen}
 use Rattle.run.specs.declared.Lent.{Lent}
-use Rattle.run.specs.Steps.{Fixed, Moved, next, stop, home, inside, stored, committed, finished, loaded, performed, planned, executed, stepOf}
+use Rattle.run.specs.Steps.{Fixed, Moved, next, stop, home, inside, stored, committed, finished, performed, planned, executed, stepOf}
 use Rattle.run.specs.Runs.{Ended, onMoved, runFrom, refusal, refusalOf, opened, taken, refused, runOf}
 use Rattle.run.proofs.Kept.{Keeps, moves, step-keeps}
+use Rattle.run.proofs.Reading.{performed-both}
 
 -- what a number says of the byte at the address: with 5 it lies in neither area, with 6 not in data
 data Apart (constants d : List ℕ) (number address : ℕ) : Type 0 where
@@ -73,20 +72,14 @@ module _ (constants d : List ℕ) (long : length d ≤ 65_536) (long′ : length
   unfolding finished
   finished-stops p m a r s = committed-stops _ _ m
 
-  -- with a read, if it is so with what follows
-  loaded-stops : (w : Size) (a : ℕ) (answer : Loaded) (go : ℕ → Moved) → loadOf constants d w a ≡ answer → ((v : ℕ) → Stops constants d (go v))
-      → Stops constants d (loaded answer go)
-  unfolding loaded
-  loaded-stops w a (Value v) go is after = after v
-  loaded-stops w a (Loaded.Outside b) go is after =
-      stops 5 (unread refl (unread-outside constants d long long′ (load-given constants d long long′ w a b is .0)))
+  -- with a read that is outside
+  outside-stops : (w : Size) (a b : ℕ) → loadOf constants d w a ≡ Loaded.Outside b → Stops constants d (stop 5 b)
+  outside-stops w a b is = stops 5 (unread refl (unread-outside constants d long long′ (load-given constants d long long′ w a b is .0)))
 
   -- with the reads, and then the effect
   performed-stops : (reads : Reads) (p : Plan) (m : Machine) (a : ℕ) → Stops constants d (performed constants reads p m a d)
-  unfolding performed
-  performed-stops Nothing p m a = finished-stops p m a 0 0
-  performed-stops (One w b) p m a = loaded-stops w b _ _ refl (λ r. finished-stops p m a r 0)
-  performed-stops (Two w b c) p m a = loaded-stops w b _ _ refl (λ r. loaded-stops w c _ _ refl (λ s. finished-stops p m a r s))
+  performed-stops reads p m a =
+      performed-both (λ v _. Stops constants d v) constants d outside-stops reads p m m a (λ r s first. finished-stops p m a r s)
 
 module _ (fixed : Fixed) (long′ : length (fixed .constants) ≤ 65_536) where
   -- with what was found at EIP

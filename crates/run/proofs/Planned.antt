@@ -6,21 +6,17 @@ use native.Mathlib.Omega.{arith}
 use lib.ListN.{length, length-set}
 use Rattle.scalar.specs.declared.Xmm.{Xmm}
 use Rattle.machine.specs.declared.registers.Machine.{Machine}
-use Rattle.machine.specs.declared.memory.Loaded.{Loaded}
-use Rattle.machine.specs.declared.memory.Loaded.the-variants.{Value}
 use Rattle.machine.specs.declared.memory.Stored.{Stored}
 use Rattle.machine.specs.declared.memory.Stored.the-variants.{Done}
 use Rattle.machine.specs.Registers.{withXmm, withBits, withSingle}
-use Rattle.machine.specs.Memory.{loadOf}
 use Rattle.machine.proofs.Access.{store-length}
 use Rattle.plan.specs.declared.Plan.{Plan}
 use Rattle.effect.specs.declared.outcome.Outcome.{Outcome}
 use Rattle.effect.specs.declared.outcome.Outcome.the-variants.{Becomes, Writes, Sets, Faults}
-use Rattle.effect.specs.declared.outcome.Reads.{Reads}
-use Rattle.effect.specs.declared.outcome.Reads.the-variants.{Nothing, One, Two}
 use Rattle.effect.specs.All.{effectBy}
 use Rattle.effect.proofs.Framing.{singles-kept}
-use Rattle.run.specs.Steps.{Moved, next, stop, stored, committed, finished, loaded, performed, operandAddress, planned}
+use Rattle.run.specs.Steps.{Moved, next, stop, stored, committed, finished, operandAddress, planned}
+use Rattle.run.proofs.Reading.{performed-both}
 
 -- the step of a plan goes on to the machine of its effect, with as many singles and data of the same length, or stops with a number from 5 to 7
 pub data Comes (p : Plan) (m : Machine) (a : ℕ) (d : List ℕ) : Moved → Type 0 where
@@ -64,25 +60,13 @@ module _ (p : Plan) (m : Machine) (a : ℕ) (d : List ℕ) where
   unfolding finished
   finished-comes r s = committed-comes _ r s
 
-  -- with a read, if it is so with what follows
-  loaded-comes : (answer : Loaded) (go : ℕ → Moved) → ((v : ℕ) → Comes p m a d (go v)) → Comes p m a d (loaded answer go)
-  unfolding loaded
-  loaded-comes (Value v) go h = h v
-  loaded-comes (Loaded.Outside b) go h = stops 5 (omega arith) (omega arith)
-
-  -- with the reads, and then the effect
-  performed-comes : (constants : List ℕ) (reads : Reads) → Comes p m a d (performed constants reads p m a d)
-  unfolding performed
-  performed-comes constants Nothing = finished-comes 0 0
-  performed-comes constants (One w b) = loaded-comes (loadOf constants d w b) _ (λ r. finished-comes r 0)
-  performed-comes constants (Two w b c) =
-      loaded-comes (loadOf constants d w b) _ (λ r. loaded-comes (loadOf constants d w c) _ (λ s. finished-comes r s))
-
 module _ (constants : List ℕ) (p : Plan) (m : Machine) (d : List ℕ) where
   -- with the step of a plan
   pub planned-comes : Comes p m (operandAddress p m) d (planned constants p m d)
   unfolding planned
-  planned-comes = performed-comes p m _ d constants _
+  planned-comes =
+      performed-both (λ v _. Comes p m (operandAddress p m) d v) constants d (λ w a b is. stops 5 (omega arith) (omega arith)) _ p m m _
+      (λ r s first. finished-comes p m _ d r s)
 
   -- the step of a plan stops only with 5, 6 or 7
   pub planned-stops : {n a : ℕ} → planned constants p m d ≡ stop n a → (5 ≤ n) × (n ≤ 7)

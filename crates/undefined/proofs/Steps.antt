@@ -1,15 +1,11 @@
 -- No step depends on a flag that 003 leaves undefined after it, and such a flag comes out clear. Assumes nothing.
 use mathlib.Core.Path.{_≡_, refl, sym, ap, _∙_}
-use mathlib.Core.Bool.{Bool, true, false, cond}
 use mathlib.Core.List.{List, []}
 use Prim.Native.Nat.{ℕ, _-_}
 use lib.Dec.{eqb}
 use Rattle.flags.specs.declared.Flags.{Flags}
 use Rattle.flags.specs.Undefined.{Flag, without, DifferOnlyIn}
 use Rattle.machine.specs.declared.registers.Machine.{Machine}
-use Rattle.machine.specs.declared.memory.Loaded.{Loaded}
-use Rattle.machine.specs.declared.memory.Loaded.the-variants.{Value}
-use Rattle.machine.specs.Memory.{loadOf}
 use Rattle.machine.specs.Registers.{withFlags}
 use Rattle.grammar.specs.Decoding.{decodeOf}
 use Rattle.grammar.specs.declared.instruction.Found.{Found}
@@ -23,25 +19,19 @@ use Rattle.effect.specs.declared.outcome.Reads.{Reads}
 use Rattle.effect.specs.declared.outcome.Reads.the-variants.{Nothing, One, Two}
 use Rattle.effect.specs.Arithmetic.{arithmeticAddress, arithmeticReads}
 use Rattle.effect.specs.All.{addressBy, readsBy, effectBy}
-use Rattle.run.specs.Steps.{Fixed, Moved, next, stop, home, inside, committed, finished, loaded, performed, operandAddress, planned, executed, stepOf}
+use Rattle.effect.proofs.Choosing.{chosen-both}
+use Rattle.run.specs.Steps.{Fixed, Moved, next, stop, home, inside, committed, finished, performed, operandAddress, planned, executed, stepOf}
+use Rattle.run.proofs.Reading.{First, performed-both}
 use Rattle.undefined.specs.Undefined.{arithmeticUndefined, undefinedBy, given, firstRead, planUndefined, foundUndefined, stepUndefined, Alike}
 use Rattle.undefined.proofs.Unflagged.{address-same, operand-same}
 use Rattle.undefined.proofs.Effects.{Settled, moves, stops, comesTo, comes-settled}
 
--- a read, and then what follows for what it gives
-loaded-settled : (us : List Flag) (l : Loaded) (go go′ : ℕ → Moved) → ((r : ℕ) → r ≡ given l → Settled us (go r) (go′ r)) → Settled us (loaded l go) (loaded l go′)
-unfolding given loaded
-loaded-settled us (Value v) go go′ h = h v refl
-loaded-settled us (Loaded.Outside b) go go′ h = stops
-
--- the reads, and then the effect for what the first gives
-module _ (constants : List ℕ) (p : Plan) (m m′ : Machine) (a : ℕ) (d : List ℕ) (us : List Flag) where
-  performed-settled : (reads : Reads) → ((r s : ℕ) → r ≡ firstRead constants reads d → Settled us (finished p m a d r s) (finished p m′ a d r s))
-      → Settled us (performed constants reads p m a d) (performed constants reads p m′ a d)
-  unfolding firstRead performed
-  performed-settled Nothing h = h 0 0 refl
-  performed-settled (One w b) h = loaded-settled us (loadOf constants d w b) _ _ (λ r e. h r 0 e)
-  performed-settled (Two w b c) h = loaded-settled us (loadOf constants d w b) _ _ (λ r e. loaded-settled us (loadOf constants d w c) _ _ (λ s e′. h r s e))
+-- what the first read gives
+first-given : (constants d : List ℕ) (reads : Reads) (r : ℕ) → First constants d reads r → firstRead constants reads d ≡ r
+unfolding given firstRead
+first-given constants d Nothing r is = sym is
+first-given constants d (One w b) r is = ap given is
+first-given constants d (Two w b c) r is = ap given is
 
 -- the parts of the step of a plan whose operation computes
 module _ (constants : List ℕ) (p : Plan) (m : Machine) (d : List ℕ) (op : Arithmetic) (e : p .operation ≡ Operation.Arithmetic op) where
@@ -90,8 +80,9 @@ module _ (constants : List ℕ) (p : Plan) (m : Machine) (g : Flags) (d : List �
       let us = arithmeticUndefined op m p (firstRead constants (arithmeticReads p a) d) in
       let known : DifferOnlyIn us (m .flags) g = rw (undefined-are constants p m d op e) at h in
       rw (undefined-are constants p m d op e, planned-is constants p (withFlags m g) d op e, planned-is constants p m d op e, address-same m g (p .address), operand-same op m g p (effectiveAddress m (p .address)))
-      (performed-settled constants p m (withFlags m g) a d us (arithmeticReads p a)
-      (λ r s first. rw (finished-is constants p (withFlags m g) d op e a r s, finished-is constants p m d op e a r s, ← first) (comes-settled m g p a d op r (rw first known))))
+      (performed-both (Settled us) constants d (λ w b c is. stops) (arithmeticReads p a) p m (withFlags m g) a
+      (λ r s first. let is = first-given constants d (arithmeticReads p a) r first in
+      rw (finished-is constants p (withFlags m g) d op e a r s, finished-is constants p m d op e a r s, is) (comes-settled m g p a d op r (rw is at known))))
 
   -- one that leaves no flag undefined
   unflagged : planUndefined constants p m d ≡ [] → DifferOnlyIn (planUndefined constants p m d) (m .flags) g
@@ -121,11 +112,6 @@ executed-settled fixed (Found.Instruction i) m g d h = planned-settled (fixed .c
 executed-settled fixed Found.Cut m g d h = stops
 executed-settled fixed Found.Unknown m g d h = stops
 
--- either of two ways
-either : (us : List Flag) (b : Bool) {x y x′ y′ : Moved} → Settled us x x′ → Settled us y y′ → Settled us (cond b x y) (cond b x′ y′)
-either us true p q = p
-either us false p q = q
-
 -- the machine with the other's flags
 with-others : (m m′ : Machine) → m′ .regs ≡ m .regs → m′ .xmm ≡ m .xmm → m′ .eip ≡ m .eip → m′ ≡ withFlags m (m′ .flags)
 unfolding withFlags
@@ -138,8 +124,8 @@ unfolding withFlags stepUndefined stepOf
 step-settled fixed m m′ d h =
     let us = stepUndefined fixed m d in
     rw (with-others m m′ (h .regs) (h .xmm) (h .eip))
-    (either us (eqb (m .eip) home) stops
-    (either us (inside (fixed .code) (m .eip)) (executed-settled fixed (decodeOf (fixed .code) (m .eip - codeBase)) m (m′ .flags) d (h .flags)) stops))
+    (chosen-both (Settled us) (eqb (m .eip) home) stops
+    (chosen-both (Settled us) (inside (fixed .code) (m .eip)) (executed-settled fixed (decodeOf (fixed .code) (m .eip - codeBase)) m (m′ .flags) d (h .flags)) stops))
 
 -- it comes to the same, flags and all
 pub step-regardless : (fixed : Fixed) (m m′ : Machine) (d : List ℕ) → Alike (stepUndefined fixed m d) m m′
