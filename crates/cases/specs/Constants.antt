@@ -81,7 +81,7 @@ stacks =
     -- 58, C3 and C9 read: the last four constants, and one byte over
     ∷ run (looks (0x58 ∷ []) (stacked 0 0 0x0020_0004 0) (stacked 1 0x8877_6655 0x0020_0008 0))
     ∷ run (misses (0x58 ∷ []) (stacked 0 0 0x0020_0005 0) 5 0x0020_0008)
-    ∷ run (looks (0xC3 ∷ []) (stacked 0 0 0x0020_0004 0) (lent (0 ∷ 0 ∷ 0 ∷ 0 ∷ 0x0020_0008 ∷ 0 ∷ 0 ∷ 0 ∷ []) (0x8877_6655) 0x0002))
+    ∷ run (looks (0xC3 ∷ []) (stacked 0 0 0x0020_0004 0) (lent (0 ∷ 0 ∷ 0 ∷ 0 ∷ 0x0020_0008 ∷ 0 ∷ 0 ∷ 0 ∷ []) 0x8877_6655 0x0002))
     ∷ run (misses (0xC3 ∷ []) (stacked 0 0 0x0020_0005 0) 5 0x0020_0008)
     ∷ run (looks (0xC9 ∷ []) (stacked 0 0 0 0x0020_0000) (stacked 1 0 0x0020_0004 0x4433_2211))
     ∷ run (misses (0xC9 ∷ []) (stacked 0 0 0 0x0020_0005) 5 0x0020_0008)
