@@ -1,2 +1,3 @@
 -- The laws of `scalar`. Assumes nothing.
+pub mod Meaning
 pub mod Numbers
