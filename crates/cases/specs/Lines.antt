@@ -7,6 +7,7 @@ use lib.ListN.{length, replicate}
 use Rattle.width.specs.Numbers.{bitAt}
 use Rattle.flags.specs.Word.{passes}
 use Rattle.scalar.specs.declared.Xmm.{Xmm}
+use Rattle.machine.specs.Registers.{xmm}
 use Rattle.grammar.specs.Cases as Bytes
 use Rattle.blockcheck.specs.Blocks.{codeBase}
 use Rattle.blockcheck.specs.Cases as Blocks
@@ -15,10 +16,7 @@ use Rattle.run.specs.declared.Ran.{Ran}
 use Rattle.run.specs.Steps.{fixedTo}
 use Rattle.run.specs.Runs.{runOf}
 
--- a single by its bits, and eight that are 0
-abbrev pub xmm : ℕ → Xmm
-xmm n = record { bits = n }
-
+-- eight XMM registers with singles that are 0
 abbrev pub zeros : List Xmm
 zeros = replicate 8 (xmm 0)
 

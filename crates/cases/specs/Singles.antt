@@ -3,10 +3,11 @@
 use mathlib.Core.List.{List, [], _∷_, _++_, map}
 use Prim.Native.Nat.{ℕ, _+_}
 use lib.ListN.{replicate}
+use Rattle.machine.specs.Registers.{xmm}
 use Rattle.grammar.specs.Cases.{cases-M-106}
 use Rattle.blockcheck.specs.Blocks.{codeBase}
 use Rattle.run.specs.declared.Lent.{Lent}
-use Rattle.cases.specs.Lines.{xmm, ends, stops, lending, step, Case, run, bytes}
+use Rattle.cases.specs.Lines.{ends, stops, lending, step, Case, run, bytes}
 use Rattle.cases.specs.Table.{eight}
 
 -- a machine at an offset of the code, by ESI, XMM0, XMM1 and the flags word; all else is 0

@@ -3,10 +3,10 @@ use mathlib.Core.Path.{_≡_, refl, ap, _∙_}
 use mathlib.Core.List.{List, [], _∷_, map}
 use Prim.Native.Nat.{ℕ, zero, suc, _+_, _%_, _≤_}
 use native.Mathlib.Omega.{arith}
-use lib.ListN.{length, getD, set, take, drop}
+use lib.ListN.{length, getD, set, length-set, take, drop}
 use lib.Seq.{drop-cons, take-all, getD-set-same, getD-set-other}
 use Rattle.scalar.specs.declared.Xmm.{Xmm}
-use Rattle.machine.specs.Registers.{bitsIn, withBits}
+use Rattle.machine.specs.Registers.{xmm, bitsIn, withBits}
 use Rattle.machine.specs.Lending.{xmmOf}
 
 -- so many elements from a place on, one by one
@@ -24,12 +24,8 @@ part-listed {A} d (suc n) k l h =
 pub eight-listed : {A : Type 0} (d : A) (l : List A) → length l ≡ 8 → listed d 8 0 l ≡ l
 eight-listed d l eight = part-listed d 8 0 l (omega arith) ∙ take-all 8 l (omega arith)
 
--- an XMM register of bits
-abbrev of : ℕ → Xmm
-of n = record { bits = n }
-
 -- the bits of one of some
-at-bits : (l : List ℕ) (k : ℕ) → getD l k 0 ≡ (getD {A = Xmm} (map of l) k (of 0)) .bits
+at-bits : (l : List ℕ) (k : ℕ) → getD l k 0 ≡ (getD {A = Xmm} (map xmm l) k (xmm 0)) .bits
 at-bits [] k = refl
 at-bits (n ∷ l) zero = refl
 at-bits (n ∷ l) (suc k) = at-bits l k
@@ -39,26 +35,31 @@ unfolding bitsIn xmmOf
 bits-in l i = at-bits l (i % 8)
 
 -- bits put among them
-set-bits : (l : List ℕ) (k v : ℕ) → map of (set l k v) ≡ set (map of l) k (of v)
+set-bits : (l : List ℕ) (k v : ℕ) → map xmm (set l k v) ≡ set (map xmm l) k (xmm v)
 set-bits [] k v = refl
 set-bits (n ∷ l) zero v = refl
-set-bits (n ∷ l) (suc k) v = ap (λ (r : List Xmm). of n ∷ r) (set-bits l k v)
+set-bits (n ∷ l) (suc k) v = ap (λ (r : List Xmm). xmm n ∷ r) (set-bits l k v)
 
 pub with-bits : (l : List ℕ) (i v : ℕ) → xmmOf (set l (i % 8) v) ≡ withBits (xmmOf l) i v
 unfolding withBits xmmOf
 with-bits l i v = set-bits l (i % 8) v
 
 -- the XMM registers of their own bits, one by one
-pub of-bits : (xmm : List Xmm) → length xmm ≡ 8 → xmmOf (map (λ (x : Xmm). x .bits) (listed (of 0) 8 0 xmm)) ≡ xmm
+pub of-bits : (all : List Xmm) → length all ≡ 8 → xmmOf (map (λ (x : Xmm). x .bits) (listed (xmm 0) 8 0 all)) ≡ all
 unfolding xmmOf
-of-bits xmm eight = eight-listed (of 0) xmm eight
+of-bits all eight = eight-listed (xmm 0) all eight
 
 -- what is put into one of eight XMM registers is read from it again, bit for bit
-pub put-read : (xmm : List Xmm) (i v : ℕ) → length xmm ≡ 8 → bitsIn (withBits xmm i v) i ≡ v
+pub put-read : (all : List Xmm) (i v : ℕ) → length all ≡ 8 → bitsIn (withBits all i v) i ≡ v
 unfolding bitsIn withBits
-put-read xmm i v eight = ap (λ (x : Xmm). x .bits) (getD-set-same xmm (i % 8) (of v) (of 0) (omega arith))
+put-read all i v eight = ap (λ (x : Xmm). x .bits) (getD-set-same all (i % 8) (xmm v) (xmm 0) (omega arith))
 
 -- and the others keep their bits
-pub put-others : (xmm : List Xmm) (i j v : ℕ) → (j % 8 ≡ i % 8 → ⊥) → bitsIn (withBits xmm i v) j ≡ bitsIn xmm j
+pub put-others : (all : List Xmm) (i j v : ℕ) → (j % 8 ≡ i % 8 → ⊥) → bitsIn (withBits all i v) j ≡ bitsIn all j
 unfolding bitsIn withBits
-put-others xmm i j v other = ap (λ (x : Xmm). x .bits) (getD-set-other xmm (i % 8) (j % 8) (of v) (of 0) other)
+put-others all i j v other = ap (λ (x : Xmm). x .bits) (getD-set-other all (i % 8) (j % 8) (xmm v) (xmm 0) other)
+
+-- they stay as many
+pub put-length : (all : List Xmm) (i v : ℕ) → length (withBits all i v) ≡ length all
+unfolding withBits
+put-length all i v = length-set all (i % 8) (xmm v)

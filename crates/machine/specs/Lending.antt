@@ -9,10 +9,11 @@ use Rattle.flags.specs.declared.Flags.{Flags}
 use Rattle.scalar.specs.declared.Xmm.{Xmm}
 use Rattle.machine.specs.declared.registers.Machine.{Machine}
 use Rattle.machine.specs.declared.registers.Change.{Change}
+use Rattle.machine.specs.Registers.{xmm}
 
 -- the machine with these registers and singles, at this EIP, with these flags
 abbrev pub machineOf : List ℕ → List Xmm → ℕ → Flags → Machine
-machineOf regs xmm eip f = record { regs = regs; xmm = xmm; eip = eip; flags = f }
+machineOf regs singles eip f = record { regs = regs; xmm = singles; eip = eip; flags = f }
 
 -- the same without singles, for what neither looks at them nor changes them
 abbrev pub holding : List ℕ → ℕ → Flags → Machine
@@ -20,7 +21,7 @@ holding regs eip f = machineOf regs [] eip f
 
 -- lent XMM registers, by their bits
 unfoldable pub xmmOf : List ℕ → List Xmm
-xmmOf xmm = map (λ (n : ℕ). record { bits = n }) xmm
+xmmOf bits = map xmm bits
 
 -- a is what `of` gives of each machine with these registers and no singles, wherever it is and whatever its flags are
 abbrev pub Gives : {A : Type 0} → List ℕ → (Machine → A) → A → Type 0

@@ -23,14 +23,18 @@ unfoldable pub withFlags : Machine → Flags → Machine
 withFlags m f = record { regs = m .regs; xmm = m .xmm; eip = m .eip; flags = f }
 
 unfoldable pub withXmm : Machine → List Xmm → Machine
-withXmm m xmm = record { regs = m .regs; xmm = xmm; eip = m .eip; flags = m .flags }
+withXmm m all = record { regs = m .regs; xmm = all; eip = m .eip; flags = m .flags }
+
+-- an XMM register by its single's bits
+abbrev pub xmm : ℕ → Xmm
+xmm n = record { bits = n }
 
 -- a single's bits, of XMM0 to XMM7 by their numbers 0 to 7
 unfoldable pub bitsIn : List Xmm → ℕ → ℕ
-bitsIn xmm i = (getD xmm (i % 8) (record { bits = 0 })) .bits
+bitsIn all i = (getD all (i % 8) (xmm 0)) .bits
 
 unfoldable pub withBits : List Xmm → ℕ → ℕ → List Xmm
-withBits xmm i v = set xmm (i % 8) (record { bits = v })
+withBits all i v = set all (i % 8) (xmm v)
 
 unfoldable pub single : Machine → ℕ → ℕ
 single m i = bitsIn (m .xmm) i

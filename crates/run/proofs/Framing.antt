@@ -26,7 +26,7 @@ use Rattle.effect.specs.All.{readsBy, effectBy}
 use Rattle.effect.proofs.Choosing.{chosen-both}
 use Rattle.effect.proofs.Framing.{effective-framed, address-framed, reads-framed, framing, puts-none}
 use Rattle.run.specs.Steps.{Fixed, stop, stored, committed, finished, performed, operandAddress, planned, executed, home, inside, stepOf}
-use Rattle.run.specs.Beside.{beside}
+use Rattle.run.specs.Beside.{Plain, beside}
 use Rattle.run.proofs.Reading.{performed-both}
 
 module _ (xmm : List Xmm) (m : Machine) (d : List ℕ) where
@@ -69,10 +69,6 @@ module _ (xmm : List Xmm) (m : Machine) (d : List ℕ) where
     planned-beside constants =
         rw (address-beside, reads-framed m xmm (p .operation) p (operandAddress p m))
         (performed-beside constants (readsBy (p .operation) m p (operandAddress p m)) (operandAddress p m))
-
--- what stands at EIP is no instruction on singles
-abbrev pub Plain : Fixed → Machine → Type 0
-Plain fixed m = (i : Decoded) → decodeOf (fixed .code) (m .eip - codeBase) ≡ Found.Instruction i → onSingles ((planOf (m .eip) i) .operation) ≡ false
 
 module _ (fixed : Fixed) (xmm : List Xmm) (m : Machine) (d : List ℕ) where
   -- what is found at EIP

@@ -1,15 +1,16 @@
 -- The step of a plan: it stops with 5, 6 or 7, or goes on to the machine of its effect. Assumes nothing.
 use mathlib.Core.Path.{_≡_, refl, ap, _∙_}
 use mathlib.Core.List.{List}
-use Prim.Native.Nat.{ℕ, _%_, _≤_}
+use Prim.Native.Nat.{ℕ, _≤_}
 use native.Mathlib.Omega.{arith}
-use lib.ListN.{length, length-set}
+use lib.ListN.{length}
 use Rattle.scalar.specs.declared.Xmm.{Xmm}
 use Rattle.machine.specs.declared.registers.Machine.{Machine}
 use Rattle.machine.specs.declared.memory.Stored.{Stored}
 use Rattle.machine.specs.declared.memory.Stored.the-variants.{Done}
-use Rattle.machine.specs.Registers.{withXmm, withBits, withSingle}
+use Rattle.machine.specs.Registers.{withXmm, withSingle}
 use Rattle.machine.proofs.Access.{store-length}
+use Rattle.machine.proofs.Lists.{put-length}
 use Rattle.plan.specs.declared.Plan.{Plan}
 use Rattle.effect.specs.declared.outcome.Outcome.{Outcome}
 use Rattle.effect.specs.declared.outcome.Outcome.the-variants.{Becomes, Writes, Sets, Faults}
@@ -36,11 +37,6 @@ module _ (p : Plan) (m : Machine) (a : ℕ) (d : List ℕ) where
   as-many : (r s : ℕ) → length ((effectBy (p .operation) m p a r s) .machine .xmm) ≡ length (m .xmm)
   as-many r s = ap length (singles-kept (p .operation) m p a r s)
 
-  -- with bits put into one
-  as-many-put : (xmm : List Xmm) (i v : ℕ) → length (withBits xmm i v) ≡ length xmm
-  unfolding withBits
-  as-many-put xmm i v = length-set xmm (i % 8) (record { bits = v })
-
   -- so it is with a write
   stored-comes : (answer : Stored) (r s : ℕ) → Comes p m a d (stored answer (effectBy (p .operation) m p a r s) d)
   unfolding stored withXmm
@@ -52,7 +48,7 @@ module _ (p : Plan) (m : Machine) (a : ℕ) (d : List ℕ) where
   unfolding committed withXmm withSingle
   committed-comes Becomes r s = goes-on r s _ (as-many r s) refl
   committed-comes Writes r s = stored-comes _ r s
-  committed-comes Sets r s = goes-on r s _ (as-many-put _ _ _ ∙ as-many r s) refl
+  committed-comes Sets r s = goes-on r s _ (put-length _ _ _ ∙ as-many r s) refl
   committed-comes Faults r s = stops 7 (omega arith) (omega arith)
 
   -- with the effect of what was read

@@ -5,7 +5,7 @@ use Prim.Native.Nat.{ℕ, _+_, _<_, _≤_}
 use lib.ListN.{length, take}
 use borrow.Author.Tests.{eq-eqb}
 use Rattle.scalar.specs.declared.Xmm.{Xmm}
-use Rattle.machine.specs.Registers.{bitsIn}
+use Rattle.machine.specs.Registers.{xmm, bitsIn}
 use Rattle.machine.proofs.Lists.{listed, eight-listed}
 use Rattle.run.specs.declared.Lent.{Lent}
 use Rattle.run.specs.declared.Ran.{Ran}
@@ -26,8 +26,8 @@ lent-again : (r : Ran) → Eight (r .machine) → lentOf (stateOf r) ≡ r .mach
 unfolding lentOf stateOf bitsIn
 lent-again r eight =
     let m = r .machine in
-    ap (λ (regs : List ℕ). record { regs = regs; xmm = listed (record { bits = 0 }) 8 0 (m .xmm); eip = m .eip; word = m .word }) (eight-listed 0 (m .regs) (eight .0))
-    ∙ ap (λ (xmm : List Xmm). record { regs = m .regs; xmm = xmm; eip = m .eip; word = m .word }) (eight-listed (record { bits = 0 }) (m .xmm) (eight .1))
+    ap (λ (regs : List ℕ). record { regs = regs; xmm = listed (xmm 0) 8 0 (m .xmm); eip = m .eip; word = m .word }) (eight-listed 0 (m .regs) (eight .0))
+    ∙ ap (λ (singles : List Xmm). record { regs = m .regs; xmm = singles; eip = m .eip; word = m .word }) (eight-listed (xmm 0) (m .xmm) (eight .1))
 
 -- a call hands back eight of both
 eight-back : (state : List ℕ) (fixed : Fixed) (d : List ℕ) (budget : ℕ) → Eight ((runOf fixed (lentOf state) d budget) .ran .machine)

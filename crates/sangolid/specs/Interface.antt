@@ -5,8 +5,7 @@ use mathlib.Core.List.{List, [], _∷_}
 use Prim.Native.Nat.{ℕ, min}
 use lib.Dec.{eqb}
 use lib.ListN.{length, getD}
-use Rattle.scalar.specs.declared.Xmm.{Xmm}
-use Rattle.machine.specs.Registers.{bitsIn}
+use Rattle.machine.specs.Registers.{xmm, bitsIn}
 use Rattle.run.specs.declared.Lent.{Lent}
 use Rattle.run.specs.declared.Ran.{Ran}
 use Rattle.run.specs.Steps.{Fixed}
@@ -17,10 +16,6 @@ use Rattle.hex.specs.Files.{Outcome}
 -- the number for a state or an answer area of another length
 unfoldable pub misfit : ℕ
 misfit = 90
-
--- a single by its bits
-abbrev pub xmm : ℕ → Xmm
-xmm n = record { bits = n }
 
 -- the machine in a state: EAX ECX EDX EBX ESP EBP ESI EDI, EIP, flags word, XMM0 to XMM7 by their bits
 unfoldable pub lentOf : List ℕ → Lent
