@@ -56,7 +56,7 @@ unfolding All Holds Gives bit-tests bit-scans double-shifts conditional-moves on
     Grammar.sibLength Grammar.bareLength
     Answers.displaced
     Reading.run Reading.bytesThen
-    Decoding.tailTree Decoding.addressTree Decoding.modrmTree Decoding.operandTree Decoding.accepts Decoding.entryTree Decoding.opcodeTree Decoding.some Decoding.acceptsEntry Decoding.escapes Decoding.escapeTree Decoding.firstTree Decoding.sizeTree Decoding.tree Decoding.answer Decoding.found Decoding.decodeOf
+    Decoding.tailTree Decoding.addressTree Decoding.modrmTree Decoding.operandTree Decoding.accepts Decoding.entryTree Decoding.opcodeTree Decoding.escapes Decoding.escapeTree Decoding.firstTree Decoding.sizeTree Decoding.tree Decoding.answer Decoding.found Decoding.decodeOf
     Operations.bitTestAt Operations.operationOf
     Senses.senses Senses.senseOf
     Addresses.baseRegister Addresses.addressBase Addresses.effectiveAddress

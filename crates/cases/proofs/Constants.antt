@@ -69,7 +69,7 @@ unfolding All Holds Gives reads operands stacks strings unread unwritten others 
     Grammar.sibLength Grammar.bareLength
     Answers.displaced
     Reading.run Reading.bytesThen
-    Decoding.tailTree Decoding.addressTree Decoding.modrmTree Decoding.operandTree Decoding.accepts Decoding.entryTree Decoding.opcodeTree Decoding.some Decoding.acceptsEntry Decoding.escapes Decoding.escapeTree Decoding.firstTree Decoding.repeatTree Decoding.sizeTree Decoding.tree Decoding.answer Decoding.found Decoding.decodeOf
+    Decoding.tailTree Decoding.addressTree Decoding.modrmTree Decoding.operandTree Decoding.accepts Decoding.entryTree Decoding.opcodeTree Decoding.escapes Decoding.escapeTree Decoding.firstTree Decoding.repeatTree Decoding.sizeTree Decoding.tree Decoding.answer Decoding.found Decoding.decodeOf
     Operations.binaryAt Operations.shiftAt Operations.operationOf
     Senses.senses Senses.senseOf
     Addresses.scaledIndex Addresses.baseRegister Addresses.addressBase Addresses.effectiveAddress

@@ -46,7 +46,7 @@ unfolding All Holds Gives rounded-singles chosen-singles compared-singles moved-
     Grammar.sibLength Grammar.bareLength
     Answers.displaced
     Reading.run Reading.bytesThen
-    Decoding.tailTree Decoding.addressTree Decoding.modrmTree Decoding.operandTree Decoding.accepts Decoding.entryTree Decoding.opcodeTree Decoding.some Decoding.acceptsEntry Decoding.escapes Decoding.escapeTree Decoding.firstTree Decoding.repeatTree Decoding.tree Decoding.answer Decoding.found Decoding.decodeOf
+    Decoding.tailTree Decoding.addressTree Decoding.modrmTree Decoding.operandTree Decoding.accepts Decoding.entryTree Decoding.opcodeTree Decoding.escapes Decoding.escapeTree Decoding.firstTree Decoding.repeatTree Decoding.tree Decoding.answer Decoding.found Decoding.decodeOf
     Operations.computeAt Operations.operationOf
     Senses.senses Senses.senseOf
     Addresses.baseRegister Addresses.addressBase Addresses.effectiveAddress

@@ -10,7 +10,6 @@ use lib.Dec.{T, ltb}
 use lib.ListN.{length, getD, List·getD-eq-default}
 use borrow.Author.Tests.{ltb-true, ltb-false}
 use Rattle.grammar.specs.Choice.{both, either}
-use Rattle.grammar.specs.Decoding.{some}
 
 -- the test passes at the n numbers from i on
 abbrev pub every : (ℕ → Bool) → ℕ → ℕ → Bool
@@ -75,6 +74,11 @@ beyond (suc k) x h = let l = beyond k x (h .0) in let other = h .1 in omega arit
 -- past a list's end stands the default
 pub default : {A : Type 0} (l : List A) (a : A) (n : ℕ) → Beyond (length l) n → getD l n a ≡ a
 default l a n h = List·getD-eq-default l a (beyond (length l) n h)
+
+-- the test passes at one of the n numbers from i on
+unfoldable pub some : (ℕ → Bool) → ℕ → ℕ → Bool
+some test i zero = false
+some test i (suc n) = either (test i) (some test (suc i) n)
 
 -- a test that passes at a number passes at some number
 pub some-passes : (test : ℕ → Bool) (i n k : ℕ) → i ≤ k → k < i + n → test k ≡ true → some test i n ≡ true

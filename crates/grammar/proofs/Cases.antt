@@ -13,7 +13,7 @@ use Rattle.grammar.specs.Grammar.{Instruction, sibLength, bareLength}
 use Rattle.width.specs.LittleEndian.{littleEndian}
 use Rattle.grammar.specs.Answers.{displaced}
 use Rattle.grammar.specs.Reading.{run, bytesThen}
-use Rattle.grammar.specs.Decoding.{tailTree, addressTree, modrmTree, operandTree, accepts, entryTree, opcodeTree, some, acceptsEntry, escapes, escapeTree, firstTree, sizeTree, repeatTree, tree, answer, found, decodeOf}
+use Rattle.grammar.specs.Decoding.{tailTree, addressTree, modrmTree, operandTree, accepts, entryTree, opcodeTree, escapes, escapeTree, firstTree, sizeTree, repeatTree, tree, answer, found, decodeOf}
 use Rattle.grammar.specs.Cases.{Saying, cut, unknown, one, BytesCase, Holds, All, case13, cases-M-100, cases-M-106}
 use Rattle.grammar.specs.declared.instruction.Found.{Found}
 use Rattle.grammar.proofs.Below.{both-left, both-right}
@@ -61,7 +61,7 @@ tested (c ∷ cs) t =
 
 -- the tables agree
 passes : T (both (test case13) (both (test cases-M-100) (test cases-M-106)))
-unfolding test case13 cases-M-100 cases-M-106 agrees decodeOf found answer run tree sizeTree repeatTree firstTree escapeTree escapes acceptsEntry some opcodeTree entryTree accepts operandTree modrmTree addressTree tailTree bytesThen sibLength bareLength littleEndian displaced ruleOf
+unfolding test case13 cases-M-100 cases-M-106 agrees decodeOf found answer run tree sizeTree repeatTree firstTree escapeTree escapes opcodeTree entryTree accepts operandTree modrmTree addressTree tailTree bytesThen sibLength bareLength littleEndian displaced ruleOf
 passes = tt
 
 -- case 13

@@ -7,7 +7,7 @@ use Prim.Native.Nat.{ℕ, _+_, _<_, _≤_}
 use native.Mathlib.Omega.{arith}
 use lib.Dec.{T, leb, leb→le, eqb}
 use lib.ListN.{length, getD, length-append}
-use Rattle.grammar.specs.Choice.{pick}
+use Rattle.grammar.specs.Choice.{pick, both}
 use Rattle.grammar.specs.Opcodes.{ruleOf, listed}
 use Rattle.grammar.specs.Grammar.{F2, F3, Prefixes, plain, size, repeated, size-repeated, repeated-size, prefixBytes, narrowOf, repeatOf, repeatIn, Opcode, alone, after0F, opcodeByte, opcodeBytes, opcodeNumber, Operand, operandBytes, fieldOf, OperandFits, without, with, displacementLength, immediateLength, bytesOf, Instruction}
 use Rattle.grammar.specs.Answers.{numbers}
@@ -19,7 +19,7 @@ use Rattle.grammar.specs.declared.rule.Rule.{Rule}
 use Rattle.grammar.specs.declared.rule.Entry.{Entry}
 use Rattle.grammar.specs.declared.instruction.Decoded.{Decoded}
 use Rattle.grammar.specs.declared.instruction.Found.{Found}
-use Rattle.grammar.proofs.Below.{every, below, both-hold}
+use Rattle.grammar.proofs.Below.{every, below, both-left, both-right, both-hold}
 use Rattle.grammar.proofs.Counts.{displacement-count}
 use Rattle.grammar.proofs.Operands.{bytes-length, sib-length, allows-has}
 use Rattle.grammar.proofs.Answered.{found-standing}
@@ -85,42 +85,57 @@ immediate-most Immediate.ImmVFor0 narrow field = pick-most (eqb field 0) _
 most : Bool → Repeat → ℕ → Rule → ℕ
 most narrow repeat n rule = prefixMost narrow repeat + n + operandMost (hasModrm (rule .modrm)) + immediateMost (rule .immediate) narrow
 
--- the rule lets no instruction pass 11 bytes
-short : Bool → Repeat → ℕ → Entry → Bool
-short narrow repeat n Entry.Unlisted = true
-short narrow repeat n (Entry.Listed rule) = pick (accepts narrow repeat rule) (leb (most narrow repeat n rule) 11) true
+-- the rule lets no instruction with these prefixes pass 11 bytes
+short : Bool → Repeat → ℕ → Rule → Bool
+short narrow repeat n rule = pick (accepts narrow repeat rule) (leb (most narrow repeat n rule) 11) true
+
+-- with 66 or without it
+short-either : Repeat → ℕ → Rule → Bool
+short-either repeat n rule = both (short true repeat n rule) (short false repeat n rule)
+
+-- whichever prefixes it has
+short-all : ℕ → Entry → Bool
+short-all n Entry.Unlisted = true
+short-all n (Entry.Listed rule) = both (short-either Repeat.Absent n rule) (both (short-either Repeat.F2 n rule) (short-either Repeat.F3 n rule))
 
 -- the test over the opcodes alone, and over those after 0F
-short-alone : (narrow : Bool) (repeat : Repeat) → T (every (λ k. short narrow repeat 1 (ruleOf k)) 0 0x100)
-unfolding short most operandMost accepts ruleOf
-short-alone true Repeat.Absent = tt
-short-alone true Repeat.F2 = tt
-short-alone true Repeat.F3 = tt
-short-alone false Repeat.Absent = tt
-short-alone false Repeat.F2 = tt
-short-alone false Repeat.F3 = tt
+short-alone : T (every (λ k. short-all 1 (ruleOf k)) 0 0x100)
+unfolding short-all short-either short most operandMost accepts ruleOf
+short-alone = tt
 
-short-after0F : (narrow : Bool) (repeat : Repeat) → T (every (λ k. short narrow repeat 2 (ruleOf (0x100 + k))) 0 0x100)
-unfolding short most operandMost accepts ruleOf
-short-after0F true Repeat.Absent = tt
-short-after0F true Repeat.F2 = tt
-short-after0F true Repeat.F3 = tt
-short-after0F false Repeat.Absent = tt
-short-after0F false Repeat.F2 = tt
-short-after0F false Repeat.F3 = tt
+short-after0F : T (every (λ k. short-all 2 (ruleOf (0x100 + k))) 0 0x100)
+unfolding short-all short-either short most operandMost accepts ruleOf
+short-after0F = tt
 
 -- at each opcode
-short-opcode : (narrow : Bool) (repeat : Repeat) (o : Opcode) → opcodeByte o < 256 → T (short narrow repeat (length (opcodeBytes o)) (ruleOf (opcodeNumber o)))
+short-opcode : (o : Opcode) → opcodeByte o < 256 → T (short-all (length (opcodeBytes o)) (ruleOf (opcodeNumber o)))
 unfolding opcodeBytes opcodeNumber
-short-opcode narrow repeat (alone b) h = below (λ k. short narrow repeat 1 (ruleOf k)) 0x100 (short-alone narrow repeat) b h
-short-opcode narrow repeat (after0F b) h = below (λ k. short narrow repeat 2 (ruleOf (0x100 + k))) 0x100 (short-after0F narrow repeat) b h
+short-opcode (alone b) h = below (λ k. short-all 1 (ruleOf k)) 0x100 short-alone b h
+short-opcode (after0F b) h = below (λ k. short-all 2 (ruleOf (0x100 + k))) 0x100 short-after0F b h
+
+-- with each choice of prefixes
+short-repeat : (repeat : Repeat) (n : ℕ) (rule : Rule) → T (short-all n (Entry.Listed rule)) → T (short-either repeat n rule)
+unfolding short-all
+short-repeat Repeat.Absent n rule t = both-left (short-either Repeat.Absent n rule) (both (short-either Repeat.F2 n rule) (short-either Repeat.F3 n rule)) t
+short-repeat Repeat.F2 n rule t =
+    both-left (short-either Repeat.F2 n rule) (short-either Repeat.F3 n rule)
+    (both-right (short-either Repeat.Absent n rule) (both (short-either Repeat.F2 n rule) (short-either Repeat.F3 n rule)) t)
+short-repeat Repeat.F3 n rule t =
+    both-right (short-either Repeat.F2 n rule) (short-either Repeat.F3 n rule)
+    (both-right (short-either Repeat.Absent n rule) (both (short-either Repeat.F2 n rule) (short-either Repeat.F3 n rule)) t)
+
+short-narrow : (narrow : Bool) (repeat : Repeat) (n : ℕ) (rule : Rule) → T (short-either repeat n rule) → T (short narrow repeat n rule)
+unfolding short-either
+short-narrow true repeat n rule t = both-left (short true repeat n rule) (short false repeat n rule) t
+short-narrow false repeat n rule t = both-right (short true repeat n rule) (short false repeat n rule) t
 
 -- so by its rule
 short-rule : (narrow : Bool) (repeat : Repeat) (n : ℕ) (rule : Rule) (e : Entry) → e ≡ Entry.Listed rule → accepts narrow repeat rule ≡ true
-    → T (short narrow repeat n e) → most narrow repeat n rule ≤ 11
+    → T (short-all n e) → most narrow repeat n rule ≤ 11
 unfolding short pick
 short-rule narrow repeat n rule e listed accepted t =
-    let test : T (short narrow repeat n (Entry.Listed rule)) = rw listed at t in
+    let whole : T (short-all n (Entry.Listed rule)) = rw listed at t in
+    let test : T (short narrow repeat n rule) = short-narrow narrow repeat n rule (short-repeat repeat n rule whole) in
     leb→le (most narrow repeat n rule) 11 (rw accepted at test)
 
 -- no instruction passes 11 bytes
@@ -132,7 +147,7 @@ eleven i =
     let narrow = narrowOf (p .prefixes) in
     let repeat = repeatIn (p .prefixes) in
     let accepted = both-hold (b .repeat) (allows66-zero (b .rule .size) narrow (fieldOf (p .operand)) (b .size)) in
-    let all = short-rule narrow repeat _ (b .rule) _ (b .listed) accepted (short-opcode narrow repeat (p .opcode) (b .opcode)) in
+    let all = short-rule narrow repeat _ (b .rule) _ (b .listed) accepted (short-opcode (p .opcode) (b .opcode)) in
     let prefixes = prefix-most (p .prefixes) in
     let operand = operand-most (b .operand) in
     let immediate = immediate-most (b .rule .immediate) narrow (fieldOf (p .operand)) in

@@ -10,7 +10,7 @@ use Rattle.grammar.specs.Choice.{pick}
 use Rattle.grammar.specs.Opcodes.{ruleOf}
 use Rattle.grammar.specs.Grammar.{regOf, allows66, allowsRepeat}
 use Rattle.grammar.specs.Reading.{Tree, none, byte}
-use Rattle.grammar.specs.Decoding.{tailTree, addressTree, modrmTree, hasModrm, operandTree, accepts, acceptsEntry, entryTree, opcodeTree, escapes, escapeTree, firstTree, sizeTree, repeatTree, tree}
+use Rattle.grammar.specs.Decoding.{tailTree, addressTree, modrmTree, hasModrm, operandTree, accepts, entryTree, opcodeTree, escapes, escapeTree, firstTree, sizeTree, repeatTree, tree}
 use Rattle.grammar.specs.declared.rule.Immediate.{Immediate}
 use Rattle.grammar.specs.declared.rule.Repeat.{Repeat}
 use Rattle.grammar.specs.declared.rule.Rule.{Rule}
@@ -19,7 +19,7 @@ use Rattle.grammar.specs.declared.instruction.Decoded.{Decoded}
 use Rattle.grammar.proofs.Below.{both-hold, both-right-held, some-number}
 use Rattle.grammar.proofs.Trees.{Ends, Live, here, read, nowhere, ends-then, live-then}
 use Rattle.grammar.proofs.Completions.{completing, allows-completing, completing-small, completing-66}
-use Rattle.grammar.proofs.Escapes.{opcodes-accept}
+use Rattle.grammar.proofs.Escapes.{acceptsEntry, escapes-some, opcodes-accept}
 use Rattle.grammar.proofs.Unlisted.{unlisted-0F}
 
 module _ {A : Type 0} where
@@ -109,9 +109,9 @@ module _ (n : ℕ) (narrow : Bool) (repeat : Repeat) where
   after-0F b = opcodeTree (n + 1) narrow repeat (0x100 + b)
 
   ends-after-0F : escapes narrow repeat ≡ true → Ends (byte after-0F)
-  unfolding escapes after-0F
+  unfolding after-0F
   ends-after-0F e =
-      let (k, above, below, accepted) = some-number (λ k. acceptsEntry narrow repeat (ruleOf k)) 0x100 0x100 e in
+      let (k, above, below, accepted) = some-number (λ k. acceptsEntry narrow repeat (ruleOf k)) 0x100 0x100 (escapes-some narrow repeat ∙ e) in
       let same : 0x100 + (k - 0x100) ≡ k = omega arith in
       let ends : Ends (after-0F (k - 0x100)) = rw same (ends-opcode (n + 1) narrow repeat k accepted) in
       read (k - 0x100) (omega arith) ends

@@ -14,7 +14,7 @@ use Rattle.grammar.specs.Opcodes.{ruleOf}
 use Rattle.grammar.specs.Grammar.{Instruction, fieldOf, RepeatPrefix, F2, F3, repeatByte, repeatOf, Prefixes, plain, size, repeated, size-repeated, repeated-size, prefixBytes, narrowOf, repeatIn, Opcode, alone, after0F, opcodeByte, opcodeBytes, opcodeNumber, Operand, operandBytes, allows66, allowsRepeat, Parts, bytesOf, Built}
 use Rattle.grammar.specs.Answers.{numbers}
 use Rattle.grammar.specs.Reading.{none, byte}
-use Rattle.grammar.specs.Decoding.{opened, operandTree, accepts, acceptsEntry, entryTree, opcodeTree, escapes, escapeTree, firstTree, sizeTree, repeatTree, tree}
+use Rattle.grammar.specs.Decoding.{opened, operandTree, accepts, entryTree, opcodeTree, escapes, escapeTree, firstTree, sizeTree, repeatTree, tree}
 use Rattle.grammar.specs.declared.rule.Prefix66.{Prefix66}
 use Rattle.grammar.specs.declared.rule.Repeat.{Repeat}
 use Rattle.grammar.specs.declared.rule.Rule.{Rule}
@@ -24,6 +24,7 @@ use Rattle.grammar.proofs.Trees.{Spells, spells-no, read, spells-yes, p
 use Rattle.grammar.proofs.Operands.{operand-spells, spells-operand, gathered}
 use Rattle.grammar.proofs.Unlisted.{unlisted-0F, unlisted-66, unlisted-F2, unlisted-F3}
 use Rattle.grammar.proofs.Below.{some-passes, both-hold, both-left-held, both-right-held}
+use Rattle.grammar.proofs.Escapes.{acceptsEntry, escapes-some}
 
 -- 66 is allowed with reg field 0 where it is allowed with any
 pub allows66-zero : (s : Prefix66) (narrow : Bool) (field : ℕ) → allows66 s narrow field ≡ true → allows66 s narrow 0 ≡ true
@@ -180,13 +181,13 @@ first-spells : (n : ℕ) (narrow : Bool) (repeat : Repeat) (o : Opcode) {rule : 
     → ruleOf (opcodeNumber o) ≡ Entry.Listed rule → accepts narrow repeat rule ≡ true
     → Spells (operandTree rule (opened (n + length (opcodeBytes o)) narrow repeat (opcodeNumber o))) x bytes
     → Spells (firstTree n narrow repeat (lead o)) x (second o ++ bytes)
-unfolding firstTree escapeTree opcodeBytes opcodeNumber escapes acceptsEntry
+unfolding firstTree escapeTree opcodeBytes opcodeNumber acceptsEntry
 first-spells n narrow repeat (alone b) small listed accepted s =
     spells-no _ (unlike b 0x0F listed unlisted-0F) (opcode-spells (n + 1) narrow repeat b listed accepted s)
 first-spells n narrow repeat (after0F b) {rule} small listed accepted s =
     spells-yes _ refl
     (spells-yes none
-    (some-passes (λ k. acceptsEntry narrow repeat (ruleOf k)) 0x100 0x100 (0x100 + b) (omega arith) (omega arith) (rw listed accepted))
+    (sym (escapes-some narrow repeat) ∙ some-passes (λ k. acceptsEntry narrow repeat (ruleOf k)) 0x100 0x100 (0x100 + b) (omega arith) (omega arith) (rw listed accepted))
     (read small (opcode-spells (n + 1 + 1) narrow repeat (0x100 + b) listed accepted (rw (add-assoc n 1 1) s))))
 
 -- F2 or F3 and what follows it

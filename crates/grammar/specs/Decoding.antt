@@ -1,7 +1,7 @@
 -- How the decoder reads: the grammar as a tree, a subtree for each of its functions. That it reads the grammar exactly is proved.
 -- Assumes nothing.
 use mathlib.Core.Path.{_≡_}
-use mathlib.Core.Bool.{Bool, true, false}
+use mathlib.Core.Bool.{Bool, true, false, not}
 use mathlib.Core.List.{List, [], _∷_}
 use Prim.Native.Nat.{ℕ, zero, suc, _+_, _≤_}
 use lib.Dec.{eqb}
@@ -125,19 +125,11 @@ entryTree n narrow repeat k (Entry.Listed rule) = pick (accepts narrow repeat ru
 unfoldable pub opcodeTree : ℕ → Bool → Repeat → ℕ → Tree Decoded
 opcodeTree n narrow repeat k = entryTree n narrow repeat k (ruleOf k)
 
--- the test passes at one of the n numbers from i on
-unfoldable pub some : (ℕ → Bool) → ℕ → ℕ → Bool
-some test i zero = false
-some test i (suc n) = either (test i) (some test (suc i) n)
-
--- the same of an entry
-unfoldable pub acceptsEntry : Bool → Repeat → Entry → Bool
-acceptsEntry narrow repeat Entry.Unlisted = false
-acceptsEntry narrow repeat (Entry.Listed rule) = accepts narrow repeat rule
-
--- whether the prefixes are allowed before any opcode after 0F
+-- whether the prefixes are allowed before any opcode after 0F: F2 is not, and F3 not with 66
 unfoldable pub escapes : Bool → Repeat → Bool
-escapes narrow repeat = some (λ k. acceptsEntry narrow repeat (ruleOf k)) 0x100 0x100
+escapes narrow Repeat.Absent = true
+escapes narrow Repeat.F2 = false
+escapes narrow Repeat.F3 = not narrow
 
 -- what follows 0F
 unfoldable pub escapeTree : ℕ → Bool → Repeat → Tree Decoded
