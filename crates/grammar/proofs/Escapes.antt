@@ -2,7 +2,6 @@
 -- Assumes nothing.
 use mathlib.Core.Path.{_≡_, refl}
 use mathlib.Core.Bool.{Bool, true, false}
-use Prim.Native.Nat.{ℕ}
 use Rattle.grammar.specs.Opcodes.{ruleOf}
 use Rattle.grammar.specs.Decoding.{accepts, escapes}
 use Rattle.grammar.specs.declared.rule.Repeat.{Repeat}

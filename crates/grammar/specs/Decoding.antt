@@ -3,10 +3,10 @@
 use mathlib.Core.Path.{_≡_}
 use mathlib.Core.Bool.{Bool, true, false, not}
 use mathlib.Core.List.{List, [], _∷_}
-use Prim.Native.Nat.{ℕ, zero, suc, _+_, _≤_}
+use Prim.Native.Nat.{ℕ, _+_, _≤_}
 use lib.Dec.{eqb}
 use lib.ListN.{length, getD, drop}
-use Rattle.grammar.specs.Choice.{pick, both, either}
+use Rattle.grammar.specs.Choice.{pick, both}
 use Rattle.grammar.specs.Opcodes.{ruleOf}
 use Rattle.grammar.specs.Grammar.{regOf, sibLength, displacementLength, immediateLength, allows, allows66, allowsRepeat}
 use Rattle.width.specs.LittleEndian.{littleEndian}

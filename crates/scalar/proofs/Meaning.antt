@@ -1,9 +1,9 @@
 -- What the definitions say in IEEE 754's words: a result's bits stand for the operation's result, and COMISS's flags are the relations "equal" and "less". Assumes nothing.
 use mathlib.Core.Path.{_≡_, refl, sym, ap, _∙_}
-use mathlib.Core.Bool.{Bool, true, false, cond, _&&_, Bool·beq, true≢false}
+use mathlib.Core.Bool.{Bool, true, false, cond, _&&_, true≢false}
 use Prim.Native.Nat.{ℕ, _+_, _*_}
 use native.Mathlib.Omega.{arith}
-use lib.Dec.{T, ltb, eqb}
+use lib.Dec.{T, eqb}
 use lib.Ieee.{Float, nan, inf, fin, binary32, fits, up, down, below, level, add, sub, mul, div, lt, eq, isNan, ofBits, ofFields}
 use lib.Ieee.Bits.{ofBits-toBits, nanBits-is}
 use lib.Ieee.Fits.{add-fits, sub-fits, mul-fits, div-fits}
