@@ -1,4 +1,6 @@
 // Sums, differences and logic at a size: the value with the word of its flags, for operations of two operands and of one.
+#![tactic(auto)]
+
 ghost use Rattle.std.specs.Prelude.{◌≡◌, ◌<◌, ◌^◌, pos};
 ghost use Rattle.std.proofs.Math.IntN.{sub_ℕ};
 ghost use Rattle.width.specs.Numbers.{Is, rest, outside};
@@ -11,7 +13,7 @@ ghost use Rattle.arith.specs.Worked.{Works};
 use width::Size;
 
 // The operations of two operands, in the order of their opcodes.
-#[derive(Drop)]
+#[derive(Clone, Copy)]
 pub enum Binary {
     Add,
     Or,
@@ -24,7 +26,7 @@ pub enum Binary {
 }
 
 // The operations of one operand.
-#[derive(Drop)]
+#[derive(Clone, Copy)]
 pub enum Single {
     Inc,
     Dec,
@@ -33,7 +35,7 @@ pub enum Single {
 }
 
 // A value, and the word of the flags that come with it.
-#[derive(Drop)]
+#[derive(Clone, Copy)]
 pub struct Worked {
     pub value: u32,
     pub word: u32,

@@ -1,4 +1,6 @@
 // Operations on the bits of a number: bit tests, bit scans, double shifts.
+#![tactic(auto)]
+
 pub mod doubles;
 pub mod scans;
 pub mod tests;
@@ -7,7 +9,7 @@ ghost use Rattle.std.specs.Prelude.{◌≡◌, ◌<◌};
 ghost use Rattle.width.specs.Numbers.{bit_at};
 
 // The bit tests, in the order of 0F BA's reg fields /4 to /7.
-#[derive(Drop)]
+#[derive(Clone, Copy)]
 pub enum BitTest {
     Bt,
     Bts,
@@ -16,14 +18,14 @@ pub enum BitTest {
 }
 
 // Bit scans: for the lowest one, and for the highest.
-#[derive(Drop)]
+#[derive(Clone, Copy)]
 pub enum Scan {
     Bsf,
     Bsr,
 }
 
 // Double shifts: to the left, and to the right.
-#[derive(Drop)]
+#[derive(Clone, Copy)]
 pub enum DoubleShift {
     Shld,
     Shrd,

@@ -7,7 +7,7 @@ use Rattle.flags.specs.declared.Flags.{Flags}
 abbrev pub differs : Bool → Bool → Bool
 differs a b = not (beq a b)
 
--- 003's mnemonics, of each the first; the others are C, NAE (B), NC, AE (NB), Z (E), NZ (NE), NA (BE), A (NBE), PE (P), PO (NP), NGE (L), GE (NL), NG (Le), G (NLE)
+-- 003's mnemonics, of each the first; the others are C, NAE (B), NC, AE (NB), Z (E), NZ (NE), NA (BE), A (NBE), PE (P), PO (NP), NGE (L), GE (NL), NG (LE), G (NLE)
 pub data Condition : Type 0 where
   O NO B NB E NE BE NBE S NS P NP L NL LE NLE : Condition
 

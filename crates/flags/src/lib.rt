@@ -1,4 +1,6 @@
 // The seven flags as a value, the flags word that they are packed in, the conditions on them, and the policy for an undefined flag.
+#![tactic(auto)]
+
 ghost use Rattle.std.specs.Prelude.{◌≡◌, ◌*◌, ◌<◌};
 ghost use Rattle.flags.specs.Word.{Word, AhWord, flags_of, passes, from_ah};
 ghost use Rattle.flags.specs.Conditions.{meets};
@@ -7,7 +9,7 @@ ghost use Rattle.flags.specs.Results.{undefined_flag, all_undefined, parity, res
 use width::Size;
 
 // The status flags and the direction flag.
-#[derive(Drop)]
+#[derive(Clone, Copy)]
 pub struct Flags {
     pub cf: bool,
     pub pf: bool,

@@ -1,4 +1,6 @@
 // Products with both halves, and division of a dividend of twice the size, with their flags.
+#![tactic(auto)]
+
 ghost use Rattle.std.specs.Prelude.{◌≡◌, ◌+◌, ◌*◌, ◌/◌, ◌^◌, ◌<◌, pos, int_div, int_rem};
 ghost use Rattle.width.specs.Sizes.{modulus, half};
 ghost use Rattle.width.specs.Numbers.{Is, residue, rest, meaning, signed, outside};
@@ -24,21 +26,21 @@ use flags::Flags;
 use width::Size;
 
 // A product's two halves.
-#[derive(Drop)]
+#[derive(Clone, Copy)]
 pub struct Product {
     pub low: u32,
     pub high: u32,
 }
 
 // What a division answers: quotient and remainder, or that the divisor is 0 or the quotient doesn't fit.
-#[derive(Drop)]
+#[derive(Clone, Copy)]
 pub enum Division {
     Parts { quotient: u32, remainder: u32 },
     Fault,
 }
 
 // A signed number by its sign and its magnitude.
-#[derive(Drop)]
+#[derive(Clone, Copy)]
 struct Signed {
     negative: bool,
     magnitude: u64,

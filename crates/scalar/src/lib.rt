@@ -1,4 +1,6 @@
 // Singles by their bits: what ADDSS MULSS SUBSS MINSS DIVSS MAXSS give, and the flags word of COMISS.
+#![tactic(auto)]
+
 ghost use Rattle.std.specs.Prelude.{◌≡◌, true, false, ◌||◌};
 ghost use Rattle.flags.specs.Word.{flags_of};
 ghost use Rattle.scalar.specs.Singles.{is_single_nan, quieted, first_nan, result_of, computed, answer, compared};
@@ -6,7 +8,7 @@ ghost use Rattle.scalar.specs.Singles.{is_single_nan, quieted, first_nan, result
 use flags::Flags;
 
 // The operations that compute a single of two, in the order of their opcodes.
-#[derive(Drop)]
+#[derive(Clone, Copy)]
 pub enum Compute {
     Add,
     Mul,
@@ -17,7 +19,7 @@ pub enum Compute {
 }
 
 // What an XMM register keeps: its low single, by the 32 bits. Each pattern is one.
-#[derive(Drop)]
+#[derive(Clone, Copy)]
 pub struct Xmm {
     pub bits: u32,
 }

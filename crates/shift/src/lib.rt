@@ -1,4 +1,6 @@
 // Shifts and rotates at a size, by any count: the value, and the flags.
+#![tactic(auto)]
+
 ghost use Rattle.std.specs.Prelude.{◌≡◌, ◌+◌, ◌*◌, ◌/◌, ◌^◌, ◌<◌, ◌≤◌, pos};
 ghost use Rattle.std.specs.Int.Signed.{shr_z};
 ghost use Rattle.width.specs.Sizes.{bits, modulus};
@@ -19,7 +21,7 @@ use flags::Flags;
 use width::Size;
 
 // The instructions, in the order of their reg fields /0 to /5 and /7.
-#[derive(Drop)]
+#[derive(Clone, Copy)]
 pub enum Shift {
     Rol,
     Ror,

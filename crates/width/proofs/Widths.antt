@@ -1,7 +1,7 @@
 -- What the three sizes have in common, and the laws of rest and signed meaning at a size. Assumes nothing.
 use mathlib.Core.Path.{◌≡◌, refl, sym, ap, ◌∙◌}
 use mathlib.Core.Bool.{false, cond, or-false}
-use Prim.Native.Nat.{ℕ, suc, ◌+◌, ◌-◌, ◌*◌, ◌/◌, ◌^◌, ◌<◌, ◌≤◌}
+use Prim.Native.Nat.{ℕ, zero, suc, ◌+◌, ◌-◌, ◌*◌, ◌/◌, ◌^◌, ◌<◌, ◌≤◌}
 use native.Mathlib.Omega.{arith}
 use lib.Dec.{ltb, leb, leb-suc-suc}
 use lib.IntN.{ℤ, pos, negsuc, neg_ℤ, nat_abs, sub_ℕ, ◌+ℤ◌}
@@ -91,9 +91,11 @@ outside_of w p q = by (sign p q)
     nums = numbers w
 
     below : (h d : ℕ) → 0 < h → lt_z (negsuc d) (neg_ℤ (pos h)) ≡ ltb h (suc d)
+    below zero d e = absurd (omega arith)
     below (suc h) d e = sym (leb-suc-suc (suc h) d)
 
     above : (h d : ℕ) → 0 < h → lt_z (pos d) (neg_ℤ (pos h)) ≡ false
+    above zero d e = absurd (omega arith)
     above (suc h) d e = refl
 
     by : Sign p q → outside w (sub_ℕ p q) ≡ cond (ltb p q) (ltb (half w) (q - p)) (leb (half w) (p - q))

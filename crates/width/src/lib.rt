@@ -1,4 +1,6 @@
 // Numbers at an operand size: 8, 16 or 32 bits. Values are `u32`, sums and products on the way `u64`.
+#![tactic(auto)]
+
 ghost use Rattle.std.specs.Prelude.{◌≡◌, pos};
 ghost use Rattle.std.proofs.Math.IntN.{sub_ℕ};
 ghost use Rattle.width.specs.Sizes.{bits, bytes, modulus, half};
@@ -17,7 +19,7 @@ ghost use Rattle.width.specs.Numbers.{
 };
 
 // The operand sizes of the instruction set.
-#[derive(Drop)]
+#[derive(Clone, Copy)]
 pub enum Size {
     Byte,
     Word,

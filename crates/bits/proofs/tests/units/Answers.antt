@@ -1,0 +1,19 @@
+-- `bits::tests::units` meets its contract: each size by arithmetic. Assumes nothing.
+use native.Mathlib.Omega.{arith}
+use Rattle.width.specs.Sizes.{bits, bytes}
+use Rattle.bits.proofs.tests.units.Goals as goal
+
+pub returns-in-Byte : goal.returns-in-Byte
+unfolding bits bytes
+returns-in-Byte c =
+    rw c.in-Byte.is (omega arith)
+
+pub returns-in-Word : goal.returns-in-Word
+unfolding bits bytes
+returns-in-Word c =
+    rw c.in-Word.is (omega arith)
+
+pub returns-in-Dword : goal.returns-in-Dword
+unfolding bits bytes
+returns-in-Dword c =
+    rw c.in-Dword.is (omega arith)

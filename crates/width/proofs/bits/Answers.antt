@@ -1,0 +1,15 @@
+-- `width::bits` meets its contract: each size by computing. Assumes nothing.
+use Rattle.width.specs.Sizes.{bits}
+use Rattle.width.proofs.bits.Goals as goal
+
+pub returns-in-Byte : goal.returns-in-Byte
+unfolding bits
+returns-in-Byte c = rw c.in-Byte.is
+
+pub returns-in-Word : goal.returns-in-Word
+unfolding bits
+returns-in-Word c = rw c.in-Word.is
+
+pub returns-in-Dword : goal.returns-in-Dword
+unfolding bits
+returns-in-Dword c = rw c.in-Dword.is
