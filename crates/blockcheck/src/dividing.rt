@@ -8,7 +8,7 @@ use grammar::reader::read;
 use grammar::relative::{Relative, relative_of};
 
 // How far the code can be cut.
-#[derive(Drop)]
+#[derive(Clone, Copy)]
 pub enum Extent {
     // To its end, into so many instructions.
     Whole(usize),

@@ -1,4 +1,6 @@
 // The block check: can the code be cut into instructions, and does every displacement land on one of their starts?
+#![tactic(auto)]
+
 mod dividing;
 mod landing;
 mod marks;
@@ -13,7 +15,7 @@ use crate::landing::first_astray;
 use crate::marks::{clear, level};
 
 // What the check answers. The count of instructions, or where the block fails.
-#[derive(Drop)]
+#[derive(Clone, Copy)]
 pub enum Verdict {
     Accepted(usize),
     // The code has no byte, or more than 65,536.

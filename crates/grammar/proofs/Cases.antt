@@ -9,7 +9,7 @@ use lib.ListN.{length}
 use lib.Seq.{take-length}
 use Rattle.grammar.specs.Choice.{both}
 use Rattle.grammar.specs.Opcodes.{rule_of}
-use Rattle.grammar.specs.Grammar.{Instruction, sib_length, bare_length}
+use Rattle.grammar.specs.Grammar.{sib_length, bare_length}
 use Rattle.width.specs.LittleEndian.{little_endian}
 use Rattle.grammar.specs.Answers.{displaced}
 use Rattle.grammar.specs.Reading.{run, bytes_then}

@@ -60,7 +60,7 @@ module _ {A : Type 0} where
   pub spelled_short : {t : Tree A} {a : A} (bytes : List ℕ) (next : ℕ) (more : List ℕ) → Spells t a (bytes ++ next ∷ more) → run t bytes ≡ short
   unfolding run
   spelled_short [] next more (read h s) = refl
-  spelled_short (b ∷ bytes) next more (read {f} h s) = run_byte f b bytes h ∙ spelled_short bytes next more s
+  spelled_short (b ∷ bytes) next more (read {f} h s) = run_byte f b bytes h ∙ spelled_short {t = f b} bytes next more s
 
   -- what can end spells some value
   ends_spelled : {t : Tree A} → Ends t → (a : A) × (bs : List ℕ) × Spells t a bs

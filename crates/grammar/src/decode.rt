@@ -31,7 +31,7 @@ use crate::rule::{Entry, Immediate, Repeat, Rule};
 use crate::table::look_up;
 
 // What stands before an opcode: so many bytes, 66 among them or not, and which of F2 and F3.
-#[derive(Drop)]
+#[derive(Clone, Copy)]
 struct Prefixes {
     read: usize,
     narrow: bool,
@@ -39,7 +39,7 @@ struct Prefixes {
 }
 
 // The opcode that stands after prefixes, so many bytes being read with it; or the code ends before it, or none takes the prefixes.
-#[derive(Drop)]
+#[derive(Clone, Copy)]
 enum Named {
     Opcode { read: usize, number: usize },
     Cut,

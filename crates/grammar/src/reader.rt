@@ -6,7 +6,7 @@ ghost use Rattle.grammar.specs.Answers.{own_bytes};
 use crate::decode::decode;
 use crate::instruction::{Decoded, Found};
 
-#[derive(Drop)]
+#[derive(Clone, Copy)]
 pub struct Reader<'a> {
     pub code: &'a [u8],
     pub at: usize,

@@ -10,7 +10,7 @@ use crate::bytes::extended;
 use crate::instruction::Decoded;
 
 // The displacement of a jump, a call or a loop; other instructions have none.
-#[derive(Drop)]
+#[derive(Clone, Copy)]
 pub enum Relative {
     Absent,
     // A 32-bit number to add to the next instruction's place.

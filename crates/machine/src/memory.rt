@@ -18,21 +18,21 @@ ghost use Rattle.machine.specs.Memory.{
 use width::Size;
 
 // Where an access lies in an area, or that it does not.
-#[derive(Drop)]
+#[derive(Clone, Copy)]
 enum Located {
     At(usize),
     Outside,
 }
 
 // What a load gives: the number, or the first address that is outside.
-#[derive(Drop)]
+#[derive(Clone, Copy)]
 pub enum Loaded {
     Value(u32),
     Outside(u32),
 }
 
 // What a store answers: done, or the first address that is outside.
-#[derive(Drop)]
+#[derive(Clone, Copy)]
 pub enum Stored {
     Done,
     Outside(u32),

@@ -22,7 +22,7 @@ use scalar::Xmm;
 use width::Size;
 
 // The machine as a value, its flags apart. A run holds registers, the bits of XMM registers, EIP and the flags word each by itself.
-#[derive(Drop)]
+#[derive(Clone, Copy)]
 pub struct Machine {
     pub regs: [u32; 8],
     pub xmm: [Xmm; 8],
@@ -31,7 +31,7 @@ pub struct Machine {
 }
 
 // A register's new value; the number 8 stands for no register.
-#[derive(Drop)]
+#[derive(Clone, Copy)]
 pub struct Change {
     pub register: u32,
     pub value: u32,

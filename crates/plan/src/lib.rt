@@ -1,4 +1,6 @@
 // The plan of a step: which operation, at which size, on which operands, and where it goes on.
+#![tactic(auto)]
+
 ghost use Rattle.std.specs.Prelude.{◌≡◌, ◌^◌, ◌<◌};
 ghost use Rattle.machine.specs.Lending.{Gives};
 ghost use Rattle.plan.specs.Addresses.{scaled_index, base_register, address_base, effective_address};
@@ -12,7 +14,7 @@ use sense::{Operation, Place, Sense};
 use width::Size;
 
 // An operand: a part of a register, the memory at the effective address, or a number.
-#[derive(Drop)]
+#[derive(Clone, Copy)]
 pub enum Operand {
     Register(u32),
     Memory,
@@ -20,7 +22,7 @@ pub enum Operand {
 }
 
 // What an effective address is computed from.
-#[derive(Drop)]
+#[derive(Clone, Copy)]
 pub struct Address {
     pub modrm: u8,
     pub sib: u8,
@@ -28,7 +30,7 @@ pub struct Address {
 }
 
 // What one step does, of its instruction and place alone.
-#[derive(Drop)]
+#[derive(Clone, Copy)]
 pub struct Plan {
     pub operation: Operation,
     pub size: Size,

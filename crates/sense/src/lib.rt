@@ -1,4 +1,6 @@
 // What an opcode means: its operation, and where its operands are.
+#![tactic(auto)]
+
 mod meaning;
 pub mod operations;
 pub mod table;
@@ -10,7 +12,7 @@ use shift::Shift;
 use width::Size;
 
 // Operations on the bits of a number.
-#[derive(Drop)]
+#[derive(Clone, Copy)]
 pub enum Bits {
     Test(BitTest),
     Scan(Scan),
@@ -18,7 +20,7 @@ pub enum Bits {
 }
 
 // Operations that compute a value or flags.
-#[derive(Drop)]
+#[derive(Clone, Copy)]
 pub enum Arithmetic {
     Binary(Binary),
     Test,
@@ -36,7 +38,7 @@ pub enum Arithmetic {
 }
 
 // Operations that move a value. MovZero and MovSign have the source's size, Set and MovIf their condition.
-#[derive(Drop)]
+#[derive(Clone, Copy)]
 pub enum Move {
     Mov,
     MovZero(Size),
@@ -56,7 +58,7 @@ pub enum Move {
 }
 
 // Operations on the flags alone.
-#[derive(Drop)]
+#[derive(Clone, Copy)]
 pub enum Flagging {
     Cmc,
     Clc,
@@ -66,7 +68,7 @@ pub enum Flagging {
 }
 
 // Operations on the stack. Call goes by the displacement, CallTo to its operand's value.
-#[derive(Drop)]
+#[derive(Clone, Copy)]
 pub enum Stack {
     Push,
     Pop,
@@ -77,7 +79,7 @@ pub enum Stack {
 }
 
 // Jumps: JumpTo to its operand's value, all others by the displacement. JumpIf has its condition.
-#[derive(Drop)]
+#[derive(Clone, Copy)]
 pub enum Branch {
     Jump,
     JumpTo,
@@ -89,7 +91,7 @@ pub enum Branch {
 }
 
 // String operations: one round each.
-#[derive(Drop)]
+#[derive(Clone, Copy)]
 pub enum Strings {
     Movs,
     Cmps,
@@ -98,7 +100,7 @@ pub enum Strings {
     Scas,
 }
 
-#[derive(Drop)]
+#[derive(Clone, Copy)]
 pub enum Operation {
     Arithmetic(Arithmetic),
     Move(Move),
@@ -113,7 +115,7 @@ pub enum Operation {
 }
 
 // Where an operand is.
-#[derive(Drop)]
+#[derive(Clone, Copy)]
 pub enum Place {
     Absent,
     // The ModR/M byte's register or memory.
@@ -136,7 +138,7 @@ pub enum Place {
 }
 
 // What an opcode names, before the reg field of a group's ModR/M byte and the opcode's own bits are looked at.
-#[derive(Drop)]
+#[derive(Clone, Copy)]
 pub enum Kind {
     Alu,
     AluGroup,
@@ -195,7 +197,7 @@ pub enum Kind {
 }
 
 // What an opcode means. `byte`: its operands are bytes; else words under 66, and doublewords without.
-#[derive(Drop)]
+#[derive(Clone, Copy)]
 pub struct Sense {
     pub kind: Kind,
     pub byte: bool,

@@ -1,0 +1,14 @@
+-- `blockcheck::landing::arrives` meets its contract: no displacement, or by its target. Assumes nothing.
+use mathlib.Core.Path.{sym, ◌∙◌}
+use Rattle.blockcheck.proofs.Seeking.{arrives_as}
+use Rattle.blockcheck.specs.Blocks.{no_displacement}
+use Rattle.blockcheck.specs.Passes.{holds}
+use Rattle.blockcheck.proofs.landing.arrives.Goals as goal
+
+pub returns-in-Absent : goal.returns-in-Absent
+returns-in-Absent c starts shows = rw (sym c.relative_of.ensures ∙ c.in-Absent.is) (holds no_displacement)
+
+pub returns-in-By : goal.returns-in-By
+returns-in-By c starts shows =
+    rw (sym c.relative_of.ensures ∙ c.in-By.is)
+    (arrives_as (rw c.leads_to.ensures at (c.lands.ensures starts shows)))
