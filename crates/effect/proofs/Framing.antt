@@ -15,7 +15,6 @@ use Rattle.machine.specs.Lending.{xmm_of}
 use Rattle.grammar.specs.declared.rule.Repeat.{Repeat}
 use Rattle.sense.specs.declared.Arithmetic.{Arithmetic}
 use Rattle.sense.specs.declared.Move.{Move}
-use Rattle.sense.specs.declared.Flagging.{Flagging}
 use Rattle.sense.specs.declared.Stack.{Stack}
 use Rattle.sense.specs.declared.Branch.{Branch}
 use Rattle.sense.specs.declared.Strings.{Strings}

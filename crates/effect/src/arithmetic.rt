@@ -47,7 +47,7 @@ pub fn arithmetic_reads(p: Plan, a: u32) -> Reads
 }
 
 // What an operation computes: the flags word, and a value that is assigned to DEST or not.
-#[derive(Drop)]
+#[derive(Clone, Copy)]
 pub struct Reckoned {
     pub word: u32,
     pub value: u32,

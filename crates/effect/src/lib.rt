@@ -1,4 +1,6 @@
 // What each operation reads, and then does: pure, on values.
+#![tactic(auto)]
+
 pub mod all;
 mod arithmetic;
 mod bitwise;

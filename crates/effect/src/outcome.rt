@@ -6,7 +6,7 @@ use machine::registers::{Change, Machine, put};
 use width::Size;
 
 // The machine changes and nothing is written, or something is, or a single is put into the XMM register with the number `address`, or a divide error.
-#[derive(Drop)]
+#[derive(Clone, Copy)]
 pub enum Outcome {
     Becomes,
     Writes,
@@ -15,7 +15,7 @@ pub enum Outcome {
 }
 
 // What changes: EIP, the flags word, registers, one after the other, and the write or the single, where there is one.
-#[derive(Drop)]
+#[derive(Clone, Copy)]
 pub struct Changes {
     pub outcome: Outcome,
     pub size: Size,
@@ -29,7 +29,7 @@ pub struct Changes {
 }
 
 // What an operation reads, in this order.
-#[derive(Drop)]
+#[derive(Clone, Copy)]
 pub enum Reads {
     Nothing,
     One { size: Size, address: u32 },

@@ -16,7 +16,7 @@ use Rattle.blockcheck.specs.Blocks.{code_base}
 use Rattle.plan.specs.Plans.{plan_of}
 use Rattle.run.specs.declared.site.Site.{Site}
 use Rattle.run.specs.declared.step.Stepped.{Stepped}
-use Rattle.run.specs.Steps.{fixed_to, stop, home, planned, executed, step_of, Steps}
+use Rattle.run.specs.Steps.{fixed_to, stop, home, executed, step_of, Steps}
 use Rattle.run.specs.Sites.{site_step, Stops, Tells}
 use Rattle.run.proofs.Places.{at_home, below_code, past_code, in_code}
 

@@ -1,4 +1,6 @@
 // A run of a block: refusals before any step, then steps until the budget is used up or one stops.
+#![tactic(auto)]
+
 mod site;
 pub mod step;
 
@@ -14,7 +16,7 @@ use machine::registers::{Machine, bits_of, xmm_of};
 use scalar::Xmm;
 
 // The machine as the caller lends it, and gets it back: with the flags word.
-#[derive(Drop)]
+#[derive(Clone, Copy)]
 pub struct Lent {
     pub regs: [u32; 8],
     pub xmm: [Xmm; 8],
@@ -23,7 +25,7 @@ pub struct Lent {
 }
 
 // What a run gives back.
-#[derive(Drop)]
+#[derive(Clone, Copy)]
 pub struct Ran {
     pub machine: Lent,
     pub steps: u64,
@@ -32,7 +34,7 @@ pub struct Ran {
 }
 
 // What a run of steps ends with.
-#[derive(Drop)]
+#[derive(Clone, Copy)]
 struct End {
     machine: Machine,
     steps: u64,

@@ -14,7 +14,7 @@ use sense::{Flagging, Operation};
 use width::Size;
 
 // What a step at an EIP comes from: the plan of the instruction there, or else the number that it stops with.
-#[derive(Drop)]
+#[derive(Clone, Copy)]
 pub struct Site {
     pub planned: bool,
     pub eip: u32,

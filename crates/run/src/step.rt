@@ -28,7 +28,7 @@ use plan::Plan;
 use width::Size;
 
 // What a step comes to: the next machine, or the same one with a number and an address.
-#[derive(Drop)]
+#[derive(Clone, Copy)]
 pub struct Stepped {
     pub stopped: bool,
     pub machine: Machine,
@@ -37,7 +37,7 @@ pub struct Stepped {
 }
 
 // What a step does on lent registers and XMM registers: what it changes, or that it stops with a number and an address.
-#[derive(Drop)]
+#[derive(Clone, Copy)]
 pub enum Taken {
     Goes(Changes),
     Stops { number: u32, address: u32 },
@@ -93,7 +93,7 @@ fn finish(
 }
 
 // What was read, 0 where nothing was; or the address that is outside.
-#[derive(Drop)]
+#[derive(Clone, Copy)]
 enum Fetched {
     Values { first: u32, second: u32 },
     Outside(u32),

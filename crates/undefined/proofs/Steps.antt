@@ -143,5 +143,5 @@ unfolding DifferOnlyIn
 step_clears fixed m m' d d' goes =
     clear (rw goes at (step_settled fixed m m d (record { regs = refl; xmm = refl; eip = refl; flags = refl })))
   where
-    clear : {us : List Flag} → Settled us (next m' d') (next m' d') → without us m'.flags ≡ m'.flags
+    clear : {us : List Flag} {v : Moved} → Settled us (next m' d') v → without us m'.flags ≡ m'.flags
     clear (moves h) = h

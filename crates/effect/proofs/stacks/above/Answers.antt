@@ -1,0 +1,5 @@
+-- `stacks::above` meets its contract. Assumes nothing.
+use Rattle.effect.proofs.stacks.above.Goals as goal
+
+pub returns : goal.returns
+returns c = c.low.ensures.is
