@@ -5,7 +5,7 @@ ghost use Rattle.intel_hex.specs.Reading.{is_pair, pairs_in, is_end, Formed};
 use crate::digits::{byte_at, digit};
 
 // What a line is: a record with so many data bytes, or none.
-#[derive(Drop)]
+#[derive(Clone, Copy)]
 pub enum Form {
     Record(usize),
     Malformed,

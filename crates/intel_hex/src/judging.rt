@@ -8,7 +8,7 @@ use crate::form::{Form, form_of};
 use crate::image::lay;
 
 // What is known after some lines: whether an end record was among them, the upper half, the code's length so far.
-#[derive(Drop)]
+#[derive(Clone, Copy)]
 pub struct File {
     pub ended: bool,
     pub upper: usize,
@@ -54,7 +54,7 @@ impl File {
 }
 
 // What a line does: it is sound, and this is known after it; or the number that refuses it.
-#[derive(Drop)]
+#[derive(Clone, Copy)]
 pub enum Judged {
     Sound(File),
     Faulty(u32),

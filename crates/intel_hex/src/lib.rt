@@ -1,4 +1,6 @@
 // Reading Intel HEX: the code that a file gives, or the number and the line that refuse it.
+#![tactic(auto)]
+
 mod digits;
 mod form;
 mod image;
@@ -12,7 +14,7 @@ use crate::image::copy;
 use crate::judging::{File, Judged, judge_line};
 
 // What is read: code of so many bytes, or why not, by number and line.
-#[derive(Drop)]
+#[derive(Clone, Copy)]
 pub enum Answer {
     Code(usize),
     Refused(u32, usize),
@@ -39,7 +41,7 @@ pub fn value_of(answer: Answer) -> usize
 }
 
 // What is found of all lines: this is known after them; or the number that refuses one, and which.
-#[derive(Drop)]
+#[derive(Clone, Copy)]
 enum Verdict {
     Whole(File),
     Faulty(u32, usize),

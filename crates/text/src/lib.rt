@@ -1,4 +1,6 @@
 // Writing text into a lent buffer: bytes, and numbers in decimal and in hexadecimal. What does not fit is left out.
+#![tactic(auto)]
+
 ghost use Rattle.std.specs.Prelude.{◌≡◌, [], ◌∷◌, ◌+◌, ◌%◌};
 ghost use Rattle.text.specs.Written.{Wrote};
 ghost use Rattle.text.specs.Digits.{decimal, hex_digit, hexadecimal};
