@@ -1,43 +1,44 @@
 // Document 01's cases 10, 11 and 12: each run's line has the case's number and what the document says of it, tab-parted.
+#![tactic(auto)]
+
 ghost use Rattle.std.specs.Prelude.{◌≤◌, length};
 
-use libc::STDOUT_FILENO;
 use machine::memory::{Loaded, load};
 use run::{Lent, Ran, run};
 use scalar::Xmm;
 use width::Size;
 
-// Writes the buffer up to a place to standard output.
-fn say(out: &[u8], end: usize)
+// Writes the buffer up to a place.
+fn say(to: &impl Print, out: &[u8], end: usize)
     requires { end ≤ length out.now }
 {
-    io::write_all(STDOUT_FILENO, &out[..end]);
+    to.write_all(&out[..end]).ok();
 }
 
 // Writes a number in decimal, by way of a buffer.
-fn say_decimal(out: &mut [u8], n: u64) {
+fn say_decimal(to: &impl Print, out: &mut [u8], n: u64) {
     let end = text::put_decimal(out, 0, n);
-    say(out, end);
+    say(to, out, end);
 }
 
 // Writes a number in eight digits of capital hex, by way of a buffer.
-fn say_hex(out: &mut [u8], n: u32) {
+fn say_hex(to: &impl Print, out: &mut [u8], n: u32) {
     let end = text::put_hex(out, 0, 8, n as u64);
-    say(out, end);
+    say(to, out, end);
 }
 
 // Writes a decimal field and the byte that parts it from what follows.
-fn decimal_field(n: u64, parted: &[u8]) {
+fn decimal_field(to: &impl Print, n: u64, parted: &[u8]) {
     let mut out = [0u8; 20];
-    say_decimal(&mut out, n);
-    io::write_all(STDOUT_FILENO, parted);
+    say_decimal(to, &mut out, n);
+    to.write_all(parted).ok();
 }
 
 // Writes a hex field and the byte that parts it from what follows.
-fn hex_field(n: u32, parted: &[u8]) {
+fn hex_field(to: &impl Print, n: u32, parted: &[u8]) {
     let mut out = [0u8; 8];
-    say_hex(&mut out, n);
-    io::write_all(STDOUT_FILENO, parted);
+    say_hex(to, &mut out, n);
+    to.write_all(parted).ok();
 }
 
 // A register's number.
@@ -87,25 +88,26 @@ fn word_at(area: &[u8], a: u32) -> u32 {
 }
 
 // The line of a half of case 10: number, EIP, ECX, ESI and EDI, the last word that was moved and the one behind it.
-fn say_half(r: Ran, last: u32, behind: u32) {
+fn say_half(to: &impl Print, r: Ran, last: u32, behind: u32) {
     let m = r.machine;
     let regs = m.regs;
-    decimal_field(10, b"\t");
-    decimal_field(wide(r.number), b"\t");
-    hex_field(m.eip, b"\t");
-    decimal_field(wide(regs[1]), b"\t");
-    hex_field(regs[6], b"\t");
-    hex_field(regs[7], b"\t");
-    hex_field(last, b"\t");
-    hex_field(behind, b"\n");
+    decimal_field(to, 10, b"\t");
+    decimal_field(to, wide(r.number), b"\t");
+    hex_field(to, m.eip, b"\t");
+    decimal_field(to, wide(regs[1]), b"\t");
+    hex_field(to, regs[6], b"\t");
+    hex_field(to, regs[7], b"\t");
+    hex_field(to, last, b"\t");
+    hex_field(to, behind, b"\n");
 }
 
 // F3 A5, 25 doublewords from 00100000h to 00100100h, with 512 data bytes: budget 10, and then 15.
-fn halves(code: &[u8]) {
+fn halves(to: &impl Print, code: &[u8]) {
     let mut area = [0u8; 512];
     fill(&mut area);
     let first = run(lent(25, 0x0010_0000, 0x0010_0100), code, b"", &mut area, 10);
     say_half(
+        to,
         first,
         word_at(&area, 0x0010_0124),
         word_at(&area, 0x0010_0128),
@@ -113,6 +115,7 @@ fn halves(code: &[u8]) {
     let m = first.machine;
     let second = run(m, code, b"", &mut area, 15);
     say_half(
+        to,
         second,
         word_at(&area, 0x0010_0160),
         word_at(&area, 0x0010_0164),
@@ -120,7 +123,7 @@ fn halves(code: &[u8]) {
 }
 
 // The same with 352 data bytes and budget 100: steps, number, address and ECX, and the last word that was moved.
-fn stopped(code: &[u8]) {
+fn stopped(to: &impl Print, code: &[u8]) {
     let mut area = [0u8; 352];
     fill(&mut area);
     let r = run(
@@ -132,31 +135,31 @@ fn stopped(code: &[u8]) {
     );
     let m = r.machine;
     let regs = m.regs;
-    decimal_field(11, b"\t");
-    decimal_field(r.steps, b"\t");
-    decimal_field(wide(r.number), b"\t");
-    hex_field(r.address, b"\t");
-    decimal_field(wide(regs[1]), b"\t");
-    hex_field(word_at(&area, 0x0010_015C), b"\n");
+    decimal_field(to, 11, b"\t");
+    decimal_field(to, r.steps, b"\t");
+    decimal_field(to, wide(r.number), b"\t");
+    hex_field(to, r.address, b"\t");
+    decimal_field(to, wide(regs[1]), b"\t");
+    hex_field(to, word_at(&area, 0x0010_015C), b"\n");
 }
 
 // 8B 06 with the 8 data bytes 11h to 88h, at one ESI: number, address and EAX.
-fn reads(code: &[u8], esi: u32) {
+fn reads(to: &impl Print, code: &[u8], esi: u32) {
     let mut area = [0x11u8, 0x22, 0x33, 0x44, 0x55, 0x66, 0x77, 0x88];
     let r = run(lent(0, esi, 0), code, b"", &mut area, 1);
     let m = r.machine;
     let regs = m.regs;
-    decimal_field(12, b"\t");
-    decimal_field(wide(r.number), b"\t");
-    hex_field(r.address, b"\t");
-    hex_field(regs[0], b"\n");
+    decimal_field(to, 12, b"\t");
+    decimal_field(to, wide(r.number), b"\t");
+    hex_field(to, r.address, b"\t");
+    hex_field(to, regs[0], b"\n");
 }
 
-fn main() {
+fn main(rt: HostRuntime) {
     let moves = [0xF3u8, 0xA5];
-    halves(&moves);
-    stopped(&moves);
+    halves(&rt, &moves);
+    stopped(&rt, &moves);
     let loads = [0x8Bu8, 0x06];
-    reads(&loads, 0x0010_0004);
-    reads(&loads, 0x0010_0005);
+    reads(&rt, &loads, 0x0010_0004);
+    reads(&rt, &loads, 0x0010_0005);
 }

@@ -1,4 +1,6 @@
 // The listing program on a block that ends inside an instruction.
-fn main() {
-    listing_text::list_input();
+#![tactic(auto)]
+
+fn main(rt: HostRuntime) {
+    listing_text::list_input(&mut rt.stdin(), &rt);
 }

@@ -1,4 +1,6 @@
 // The listing of a block: its instructions line by line, or why it is refused.
+#![tactic(auto)]
+
 mod lines;
 mod verdict;
 
@@ -7,7 +9,8 @@ ghost use Rattle.listing_text.specs.Listing.{longest, Listed};
 
 use crate::verdict::put_text;
 use blockcheck::check;
-use libc::{STDIN_FILENO, STDOUT_FILENO};
+use std::io::Read;
+use streams::read_full;
 
 // Checks a block, and writes its text from the start of a buffer on. Gives the place after the text.
 pub fn list(code: &[u8], marks: &mut [u8], out: &mut [u8]) -> usize
@@ -24,24 +27,24 @@ fn block_buffer() -> [u8; 65537]
     [0; 65537]
 }
 
-// Writes the listing of a block to standard output, by way of a buffer in which no text is cut.
-fn write_list(code: &[u8], marks: &mut [u8], out: &mut [u8])
+// Writes the listing of a block, by way of a buffer in which no text is cut.
+fn write_list(code: &[u8], marks: &mut [u8], out: &mut [u8], to: &impl Print)
     requires { longest ≤ length out.old }
 {
     let end = list(code, marks, out);
-    io::write_all(STDOUT_FILENO, &out[..end]);
+    to.write_all(&out[..end]).ok();
 }
 
 // The same by way of a buffer as long as the longest text.
-fn write_whole(code: &[u8], marks: &mut [u8], out: &mut [u8; 786468]) {
-    write_list(code, marks, out);
+fn write_whole(code: &[u8], marks: &mut [u8], out: &mut [u8; 786468], to: &impl Print) {
+    write_list(code, marks, out, to);
 }
 
-// Lists the code that standard input holds: one byte more than a block may have is enough to refuse it.
-pub fn list_input() {
+// Lists the code that is read: one byte more than a block may have is enough to refuse it. A write that fails is dropped, and a read that fails ends the input.
+pub fn list_input<R: Read>(from: &mut R, to: &impl Print) {
     let mut code = block_buffer();
-    let size = io::read_full(STDIN_FILENO, &mut code);
+    let size = read_full(from, &mut code);
     let mut marks = block_buffer();
     let mut out = [0u8; 786468];
-    write_whole(&code[..size], &mut marks[..size], &mut out);
+    write_whole(&code[..size], &mut marks[..size], &mut out, to);
 }

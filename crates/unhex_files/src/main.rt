@@ -1,24 +1,36 @@
 // What is found of each hex file that an argument names.
-use libc::STDOUT_FILENO;
+#![tactic(auto)]
 
-// Writes a file's name, and what is found of it.
-fn say_argument(i: usize) {
-    let mut path = io::buffer();
-    let length = os::arg(i, &mut path);
-    io::write_all(STDOUT_FILENO, &path[..length]);
-    io::write_all(STDOUT_FILENO, b"\t");
-    let fd = os::open_read(&path[..length]);
-    if fd < 0 {
-        io::write_all(STDOUT_FILENO, b"unreadable\n");
-        return;
-    }
-    unhex_text::say_file(fd);
-    libc::close(fd);
+use std::env::{Env, FillError};
+use std::fs::File;
+use std::rt::Files;
+use std::str;
+
+// The file at a path; none where it can't be opened.
+fn opened<R: Files>(rt: &R, path: &[u8]) -> Option<R::File> {
+    let name = str::from_utf8(path).ok()?;
+    File::open(rt, name).ok()
 }
 
-fn main() {
-    let count = os::arg_count();
-    for i in 1..count {
-        say_argument(i);
+// Writes a file's name, and what is found of it.
+fn say_argument(rt: &(impl Files + Print), path: &[u8]) {
+    rt.write_all(path).ok();
+    rt.write_all(b"\t").ok();
+    match opened(rt, path) {
+        Some(mut file) => unhex_text::say_file(&mut file, rt),
+        None => {
+            rt.write_all(b"unreadable\n").ok();
+        }
+    }
+}
+
+fn main(rt: HostRuntime) {
+    let mut path = [0u8; 4096];
+    for i in 1..usize::MAX {
+        match rt.arg(i, &mut path) {
+            Ok(length) => say_argument(&rt, &path[..length]),
+            Err(FillError::TooLong) => say_argument(&rt, b""),
+            Err(FillError::NotPresent) => break,
+        }
     }
 }

@@ -46,7 +46,7 @@ unfolding field
 field_short n end h = rw length-append (omega (arith, decimal_short 6 n (omega arith)))
 
 -- no line is longer than the longest
-line_short : {text area after line : List ℕ} {size : ℕ} → Told text area size after line → length line ≤ longest
+line_short : {size : ℕ} {text area after line : List ℕ} → Told text area size after line → length line ≤ longest
 unfolding code_line too_long_line refusal refused_word ascii
 line_short (code {size} short some o) =
     let (_, inside, room) = accepted_sized o in

@@ -9,7 +9,7 @@ use Rattle.unhex_text.specs.Unhexing.{code_line, Told, code, refused, too_long, 
 use Rattle.unhex_text.specs.declared.Ends.{Ends}
 
 -- any two answers to a text coincide
-told_unique : {text area x y l m : List ℕ} {a b : ℕ} → Told text area a x l → Told text area b y m → (a ≡ b) × (x ≡ y) × (l ≡ m)
+told_unique : {a b : ℕ} {text area x y l m : List ℕ} → Told text area a x l → Told text area b y m → (a ≡ b) × (x ≡ y) × (l ≡ m)
 told_unique (code short some o) (code small few p) =
     let (number, size, after) = outcome_unique o p in
     (size, after, ap code_line size)

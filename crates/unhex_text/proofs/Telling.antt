@@ -32,7 +32,7 @@ area_kept (no_data stands ended blank) = refl
 area_kept (read stands ended holds) = holds.long
 
 -- the code lies in the area
-pub code_inside : {text area after line : List ℕ} {size : ℕ} → Told text area size after line → size ≤ length after
+pub code_inside : {size : ℕ} {text area after line : List ℕ} → Told text area size after line → size ≤ length after
 code_inside (code short some o) =
     let (_, inside, room) = accepted_sized o in
     omega (arith, area_kept o)

@@ -1,14 +1,17 @@
 // A hex file at the command line: its code, or a line that says why it is refused.
+#![tactic(auto)]
+
 ghost use Rattle.std.specs.Prelude.{◌≤◌, length};
 ghost use Rattle.text.specs.Written.{Wrote};
 ghost use Rattle.unhex_text.specs.Unhexing.{code_line, longest, Unhexed};
 
 use intel_hex::{number_of, value_of};
-use libc::{STDERR_FILENO, STDIN_FILENO, STDOUT_FILENO};
+use std::io::Read;
+use streams::read_full;
 use text::{put_bytes, put_field, put_refusal};
 
 // Where an answer ends: so many bytes of code, none where the file is refused, and so many of the line that tells it.
-#[derive(Drop)]
+#[derive(Clone, Copy)]
 pub struct Ends {
     pub code: usize,
     pub line: usize,
@@ -44,49 +47,68 @@ pub fn unhex(text: &[u8], code: &mut [u8], line: &mut [u8]) -> Ends
     Ends { code: 0, line: end }
 }
 
-// Writes the answer, by way of a buffer in which no line is cut: its line alone to standard output, or else the code there, or the line to standard error.
-fn write_answer(text: &[u8], line_only: bool, code: &mut [u8], line: &mut [u8])
+// Writes the answer, by way of a buffer in which no line is cut: its line alone to `out`, or else the code there, or the line to `err`.
+fn write_answer(
+    text: &[u8],
+    line_only: bool,
+    code: &mut [u8],
+    line: &mut [u8],
+    out: &impl Print,
+    err: &impl Print,
+)
     requires { longest ≤ length line.old }
 {
     let ends = unhex(text, code, line);
     let size = ends.code;
     let end = ends.line;
     if line_only {
-        io::write_all(STDOUT_FILENO, &line[..end]);
+        out.write_all(&line[..end]).ok();
         return;
     }
     if size == 0 {
-        io::write_all(STDERR_FILENO, &line[..end]);
+        err.write_all(&line[..end]).ok();
         return;
     }
-    io::write_all(STDOUT_FILENO, &code[..size]);
+    out.write_all(&code[..size]).ok();
 }
 
-// Reads an open file into a buffer, and writes the answer to it.
-fn answer_by(fd: i32, line_only: bool, text: &mut [u8]) {
-    let size = io::read_full(fd, text);
-    let mut code = io::large_buffer();
+// Reads a file into a buffer, and writes the answer to it.
+fn answer_by<R: Read>(
+    from: &mut R,
+    line_only: bool,
+    text: &mut [u8],
+    out: &impl Print,
+    err: &impl Print,
+) {
+    let size = read_full(from, text);
+    let mut code = [0u8; 65536];
     let mut line = [0u8; 34];
-    write_answer(&text[..size], line_only, &mut code, &mut line);
+    write_answer(&text[..size], line_only, &mut code, &mut line, out, err);
 }
 
 // The same by way of a buffer with one byte more than a file may have: that is enough to refuse it.
-fn answer_whole(fd: i32, line_only: bool, text: &mut [u8; 1048577]) {
-    answer_by(fd, line_only, text);
+fn answer_whole<R: Read>(
+    from: &mut R,
+    line_only: bool,
+    text: &mut [u8; 1048577],
+    out: &impl Print,
+    err: &impl Print,
+) {
+    answer_by(from, line_only, text, out, err);
 }
 
-// Writes the answer to an open file.
-fn answer(fd: i32, line_only: bool) {
+// Writes the answer to a file.
+fn answer<R: Read>(from: &mut R, line_only: bool, out: &impl Print, err: &impl Print) {
     let mut text = [0u8; 1048577];
-    answer_whole(fd, line_only, &mut text);
+    answer_whole(from, line_only, &mut text, out, err);
 }
 
-// Writes the code of the hex file that standard input holds to standard output, or why it is refused to standard error.
-pub fn unhex_input() {
-    answer(STDIN_FILENO, false);
+// Writes the code of the hex file that is read to `out`, or why it is refused to `err`. A write that fails is dropped, and a read that fails ends the input.
+pub fn unhex_input<R: Read>(from: &mut R, out: &impl Print, err: &impl Print) {
+    answer(from, false, out, err);
 }
 
-// Says on standard output what is found of an open hex file: how long its code is, or why it is refused.
-pub fn say_file(fd: i32) {
-    answer(fd, true);
+// Says what is found of a hex file: how long its code is, or why it is refused. A write that fails is dropped, and a read that fails ends the input.
+pub fn say_file<R: Read>(from: &mut R, out: &impl Print) {
+    answer(from, true, out, out);
 }
