@@ -1,4 +1,6 @@
 // The C interface: a run, a block check and the reading of a hex file, over areas that the caller lends.
+#![tactic(auto)]
+
 ghost use Rattle.std.specs.Prelude.{◌≡◌, [], ◌∷◌, ◌+◌, ◌<◌, ◌≤◌, ◌^◌, length};
 ghost use Rattle.std.proofs.lemmas.List.Edits.{sets};
 ghost use Rattle.blockcheck.specs.Blocks.{number_of, value_of};
@@ -78,8 +80,7 @@ fn hand_back(state: &mut [u32], ran: Ran)
 }
 
 // Runs the block from the state, over the lent constants and data, and puts what comes back into the state.
-#[unsafe(no_mangle)]
-pub extern "C" fn sangolid_run(
+pub fn sangolid_run(
     state: &mut [u32],
     code: &[u8],
     constants: &[u8],
@@ -126,8 +127,7 @@ fn value_of(v: Verdict) -> u32
 }
 
 // Checks the block, marks its starts, and puts the count or the offset into the answer.
-#[unsafe(no_mangle)]
-pub extern "C" fn sangolid_check(code: &[u8], marks: &mut [u8], answer: &mut [u32]) -> u32
+pub fn sangolid_check(code: &[u8], marks: &mut [u8], answer: &mut [u32]) -> u32
     ensures { Checks code.now marks.old answer.old result marks.new answer.new }
 {
     if answer.len() != 1 {
@@ -149,8 +149,7 @@ fn word_of(n: usize) -> u32
 }
 
 // Reads a hex file into the code area, and puts the code's length or the line into the answer.
-#[unsafe(no_mangle)]
-pub extern "C" fn sangolid_hex(text: &[u8], code: &mut [u8], answer: &mut [u32]) -> u32
+pub fn sangolid_hex(text: &[u8], code: &mut [u8], answer: &mut [u32]) -> u32
     ensures { Unhexes text.now code.old answer.old result code.new answer.new }
 {
     if answer.len() != 1 {

@@ -8,7 +8,7 @@ use vector_text::areas::{fill, fits, holds};
 use vector_text::fields::{field, has_form, number_32, number_64};
 
 // What is found of a case: it comes out as its line says, or differs first in the field of a number, or its line is malformed.
-#[derive(Drop)]
+#[derive(Clone, Copy)]
 pub enum Finding {
     Same,
     DiffersIn(usize),
@@ -16,7 +16,7 @@ pub enum Finding {
 }
 
 // What is called: a run, a block check, or the reading of a hex file.
-#[derive(Drop)]
+#[derive(Clone, Copy)]
 pub enum Kind {
     Run,
     Check,

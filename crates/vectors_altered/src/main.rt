@@ -1,4 +1,6 @@
 // The vectors' program over altered cases: each is named with the field that was altered.
-fn main() {
-    vector_run::judge_input();
+#![tactic(auto)]
+
+fn main(rt: HostRuntime) {
+    vector_run::judge_input(&mut rt.stdin(), &rt);
 }

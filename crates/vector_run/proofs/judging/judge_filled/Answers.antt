@@ -1,0 +1,19 @@
+-- `vector_run::judging::judge_filled` meets its contract: a case of its kind over filled areas. Assumes nothing.
+use Rattle.std.proofs.Common.{rules}
+use Rattle.vector_run.proofs.Found.{filled, kind_run, kind_check, kind_hex}
+use Rattle.vector_run.proofs.judging.judge_filled.Goals as goal
+
+pub returns-in-Run : goal.returns-in-Run
+returns-in-Run c =
+    kind_run _ (filled _ 14 _ c.field.ensures c.fill.ensures) (filled _ 16 _ c.field-2.ensures c.fill-2.ensures) c.in-Run.is
+    c.judge_run.ensures
+
+pub returns-in-Check : goal.returns-in-Check
+returns-in-Check c =
+    kind_check _ (filled _ 14 _ c.field.ensures c.fill.ensures) (filled _ 16 _ c.field-2.ensures c.fill-2.ensures) c.in-Check.is
+    c.judge_check.ensures
+
+pub returns-in-Hex : goal.returns-in-Hex
+returns-in-Hex c =
+    kind_hex _ (filled _ 14 _ c.field.ensures c.fill.ensures) (filled _ 16 _ c.field-2.ensures c.fill-2.ensures) c.in-Hex.is
+    c.judge_hex.ensures

@@ -1,0 +1,21 @@
+-- `vector_text::hex::digit` meets its contract: each stretch of bytes has its values. Assumes nothing.
+use mathlib.Core.Path.{sym}
+use native.Mathlib.Omega.{arith}
+use Rattle.vector_text.proofs.Digits.{below_figures, figure, between, letter, past_letters}
+use Rattle.vector_text.proofs.hex.digit.Goals as goal
+
+pub returns-in-48-to-57 : goal.returns-in-48-to-57
+returns-in-48-to-57 c = (sym (figure _ (omega arith) (omega arith)).stands, omega arith)
+
+pub returns-in-65-to-70 : goal.returns-in-65-to-70
+returns-in-65-to-70 c =
+    (omega (arith, (letter c.args.byte (omega arith) (omega arith)).stands), omega arith)
+
+pub returns-in_default : goal.returns-in_default
+returns-in_default c = (sym (below_figures _ (omega arith)).stands, omega arith)
+
+pub returns-in_default-2 : goal.returns-in_default-2
+returns-in_default-2 c = (sym (between _ (omega arith) (omega arith)).stands, omega arith)
+
+pub returns-in_default-3 : goal.returns-in_default-3
+returns-in_default-3 c = (sym (past_letters _ (omega arith)).stands, omega arith)
