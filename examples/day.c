@@ -1,7 +1,7 @@
 /*
  * Sums the readings of a 25-hour day, the day on which the clocks go back, with a calculation block.
  *
- * `examples/run-day` does all of it. By hand, from the project's folder, after `rt staticlib sangolid`:
+ * `examples/run-day` does all of it. By hand, from the project's folder, after `tools/staticlib`:
  *   cc -O2 -I include examples/day.c target/staticlib/libsangolid.a -o target/day
  *   target/day | diff - examples/day.expected
  */

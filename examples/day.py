@@ -1,6 +1,6 @@
 """Sums the readings of a 25-hour day with a calculation block, as day.c does.
 
-From the project's folder, after `rt staticlib sangolid`:
+From the project's folder, after `tools/staticlib`:
   cc -shared -o target/libsangolid.so -Wl,--whole-archive target/staticlib/libsangolid.a -Wl,--no-whole-archive
   python3 examples/day.py | diff - examples/day.expected
 """
