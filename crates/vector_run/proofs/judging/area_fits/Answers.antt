@@ -1,5 +1,5 @@
 -- `vector_run::judging::area_fits` meets its contract: the size has room, and the bytes fit it. Assumes nothing.
-use Rattle.std.proofs.Common.{rules, le-leb}
+use Rattle.std.proofs.Common.{le-leb}
 use borrow.Author.Tests.{lt-leb}
 use Rattle.vector_run.specs.Cases.{number_of, area_fits}
 use Rattle.vector_run.proofs.judging.area_fits.Goals as goal

@@ -1,5 +1,5 @@
 -- `vector_run::judging::compare_answer` meets its contract: the number, the answer and the area, one after another. Assumes nothing.
-use Rattle.std.proofs.Common.{sym, ◌∙◌, rules}
+use Rattle.std.proofs.Common.{sym, ◌∙◌}
 use Rattle.vector_run.specs.Findings.{answer_told}
 use Rattle.vector_run.proofs.Comparing.{number_same, number_other}
 use Rattle.vector_run.proofs.judging.compare_answer.Goals as goal

@@ -1,5 +1,5 @@
 -- `vector_run::judging::compare_area` meets its contract: the area is that of the field, or not. Assumes nothing.
-use Rattle.std.proofs.Common.{sym, ◌∙◌, rules}
+use Rattle.std.proofs.Common.{sym, ◌∙◌}
 use Rattle.vector_run.proofs.Comparing.{area_same, area_other}
 use Rattle.vector_run.proofs.judging.compare_area.Goals as goal
 

@@ -1,7 +1,7 @@
 -- `vector_run::judging::compare_numbers` meets its contract: the numbers still to come decide. Assumes nothing.
 use Rattle.std.proofs.Common.{rules}
-use Rattle.std.proofs.Common.{◌-◌, ◌≤◌, length, sym, ◌∙◌, rules}
-use Rattle.vector_run.proofs.Comparing.{Comparing, compare_begins, compare_goes, compare_stops, compare_ends}
+use Rattle.std.proofs.Common.{sym, ◌∙◌, rules}
+use Rattle.vector_run.proofs.Comparing.{compare_begins, compare_goes, compare_stops, compare_ends}
 use Rattle.vector_run.proofs.judging.compare_numbers.Goals as goal
 
 pub loop-i-init : goal.loop-i-init

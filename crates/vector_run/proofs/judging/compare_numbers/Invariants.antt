@@ -1,6 +1,6 @@
 -- What holds in the loops of `vector_run::judging::compare_numbers`.
-use Rattle.std.proofs.Common.{◌-◌, ◌≤◌, length, sym, ◌∙◌, rules}
-use Rattle.vector_run.proofs.Comparing.{Comparing, compare_begins, compare_goes, compare_stops, compare_ends}
+use Rattle.std.proofs.Common.{◌-◌, ◌≤◌, length}
+use Rattle.vector_run.proofs.Comparing.{Comparing}
 use Rattle.vector_run.proofs.judging.compare_numbers.Given as goal
 
 abbrev pub invariant-loop-i : goal.invariant-loop-i

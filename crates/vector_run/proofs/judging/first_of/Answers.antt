@@ -1,5 +1,4 @@
 -- `vector_run::judging::first_of` meets its contract: each finding by its kind. Assumes nothing.
-use Rattle.std.proofs.Common.{rules}
 use Rattle.vector_run.specs.Findings.{first_found}
 use Rattle.vector_run.proofs.judging.first_of.Goals as goal
 

@@ -1,5 +1,5 @@
 -- `vector_run::judging::judge` meets its contract: by the form of the line. Assumes nothing.
-use Rattle.std.proofs.Common.{sym, ◌∙◌, rules}
+use Rattle.std.proofs.Common.{sym, ◌∙◌}
 use Rattle.text.specs.Ascii.{ascii}
 use Rattle.vector_run.specs.Cases.{is_run, is_check, is_hex}
 use Rattle.vector_run.specs.Findings.{of_run, of_check, of_hex, of_none}

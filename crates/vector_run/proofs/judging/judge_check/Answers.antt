@@ -1,5 +1,4 @@
 -- `vector_run::judging::judge_check` meets its contract: what the call gives is compared. Assumes nothing.
-use Rattle.std.proofs.Common.{rules}
 use Rattle.vector_run.proofs.Found.{check_found}
 use Rattle.vector_run.proofs.judging.judge_check.Goals as goal
 

@@ -1,5 +1,4 @@
 -- `vector_run::judging::judge_filled` meets its contract: a case of its kind over filled areas. Assumes nothing.
-use Rattle.std.proofs.Common.{rules}
 use Rattle.vector_run.proofs.Found.{filled, kind_run, kind_check, kind_hex}
 use Rattle.vector_run.proofs.judging.judge_filled.Goals as goal
 

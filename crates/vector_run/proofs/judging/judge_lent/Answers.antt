@@ -1,5 +1,4 @@
 -- `vector_run::judging::judge_lent` meets its contract: what the call over filled constants gives is compared. Assumes nothing.
-use Rattle.std.proofs.Common.{rules}
 use Rattle.vector_run.proofs.Found.{lent_found}
 use Rattle.vector_run.proofs.judging.judge_lent.Goals as goal
 

@@ -1,7 +1,6 @@
 -- `vector_run::judging::judge_run` meets its contract: the constants fit their room. Assumes nothing.
 use Rattle.std.proofs.Common.{rules}
 use Rattle.std.proofs.Common.{sym, refl, ◌∙◌, length-take-le, rules}
-use borrow.Author.Tests.{not-true, not-false}
 use Rattle.vector_run.proofs.Found.{fits_room, run_unfit, run_found}
 use Rattle.vector_run.proofs.judging.judge_run.Goals as goal
 

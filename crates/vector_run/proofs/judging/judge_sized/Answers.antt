@@ -1,7 +1,6 @@
 -- `vector_run::judging::judge_sized` meets its contract: both areas fit their rooms. Assumes nothing.
 use Rattle.std.proofs.Common.{rules}
 use Rattle.std.proofs.Common.{sym, ◌∙◌, length-take-le, rules}
-use borrow.Author.Tests.{not-true, not-false}
 use Rattle.vector_run.specs.Findings.{no_code, no_area}
 use Rattle.vector_run.proofs.Found.{fits_room, sized_found}
 use Rattle.vector_run.proofs.judging.judge_sized.Goals as goal

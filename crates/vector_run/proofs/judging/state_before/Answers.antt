@@ -1,5 +1,4 @@
 -- `vector_run::judging::state_before` meets its contract: ten words of the line and eight more, and two for steps and address. Assumes nothing.
-use Rattle.std.proofs.Common.{rules}
 use Rattle.vector_run.specs.Cases.{words_from, state_before}
 use Rattle.vector_run.proofs.judging.state_before.Goals as goal
 

@@ -1,5 +1,5 @@
 -- `vector_run::reading::is_header` meets its contract: the first field, before the first case. Assumes nothing.
-use Rattle.std.proofs.Common.{rules, eq-eqb, ne_eqb}
+use Rattle.std.proofs.Common.{eq-eqb, ne_eqb}
 use Rattle.text.specs.Ascii.{ascii}
 use Rattle.vector_text.proofs.Bytes.{same_equal}
 use Rattle.vector_run.specs.Lines.{is_header}

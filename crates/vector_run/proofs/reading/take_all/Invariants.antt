@@ -1,5 +1,5 @@
 -- What holds in the loops of `vector_run::reading::take_all`.
-use Rattle.std.proofs.Common.{◌≡◌, ◌≤◌, length, sym, length-take-le, rules}
+use Rattle.std.proofs.Common.{◌≡◌, ◌≤◌, length}
 use Rattle.vector_run.proofs.reading.take_all.Given as goal
 
 abbrev pub invariant-loop-turns : goal.invariant-loop-turns

@@ -1,7 +1,6 @@
 -- What holds in the loops of `vector_run::reading::take_bytes`.
-use Rattle.std.proofs.Common.{◌-◌, ◌≤◌, length, take, rules}
+use Rattle.std.proofs.Common.{◌-◌, ◌≤◌, length, take}
 use Rattle.vector_run.specs.Lines.{Took}
-use Rattle.vector_run.proofs.Taking.{took_none, took_next, took_all}
 use Rattle.vector_run.proofs.reading.take_bytes.Given as goal
 
 abbrev pub invariant-loop-i : goal.invariant-loop-i
