@@ -27,8 +27,8 @@ pub fn lay(line: &[u8], count: usize, image: &mut [u16], from: usize) -> bool
 
 // Copies so many cells into the code area.
 pub fn copy(image: &[u16], code: &mut [u8], size: usize)
-    requires size_in_bounds { size ≤ length image.now }
-    requires size_in_bounds_2 { size ≤ length code.old }
+    requires within_image { size ≤ length image.now }
+    requires within_code { size ≤ length code.old }
     ensures { Copied image.now code.old size code.new }
 {
     let mut i = 0;

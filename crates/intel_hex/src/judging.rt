@@ -94,7 +94,7 @@ fn start_of(line: &[u8], upper: usize) -> usize
 // Judges a record of type 00.
 fn judge_data(line: &[u8], count: usize, file: File, size: usize, image: &mut [u16]) -> Judged
     requires summed { Summed line.now count × (byte_at line.now 7 ≡ 0) }
-    requires ended_value { (file.ended ≡ false) × (file.upper < 65536) }
+    requires not_ended { (file.ended ≡ false) × (file.upper < 65536) }
     requires image_len { length image.old ≡ 65536 }
     ensures { JudgesFrom size file image.old line.now result image.new }
 {
@@ -141,8 +141,8 @@ fn judge_upper(line: &[u8], count: usize, file: File) -> Judged
 
 // Judges a record.
 fn judge_record(line: &[u8], count: usize, file: File, size: usize, image: &mut [u16]) -> Judged
-    requires count_value { (count ≡ byte_at line.now 1) × Reads line.now (record_in line.now count) }
-    requires ended_value { (file.ended ≡ false) × (file.upper < 65536) }
+    requires reads_record { (count ≡ byte_at line.now 1) × Reads line.now (record_in line.now count) }
+    requires not_ended { (file.ended ≡ false) × (file.upper < 65536) }
     requires image_len { length image.old ≡ 65536 }
     ensures { JudgesFrom size file image.old line.now result image.new }
 {

@@ -7,7 +7,7 @@ use Rattle.intel_hex.specs.Reading.{Copied}
 use Rattle.intel_hex.proofs.image.copy.Goals as goal
 
 pub loop-i-preserved : goal.loop-i-preserved
-loop-i-preserved c = (omega (arith, c.loop-i-test.true), copied_more c.loop-i.invariant.1 (omega (arith, c.loop-i-test.true, c.requires.size_in_bounds_2)))
+loop-i-preserved c = (omega (arith, c.loop-i-test.true), copied_more c.loop-i.invariant.1 (omega (arith, c.loop-i-test.true, c.requires.within_code)))
 
 pub returns : goal.returns
 returns c =
