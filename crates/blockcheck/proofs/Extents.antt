@@ -10,7 +10,8 @@ use Rattle.grammar.specs.Answers.{Begins, Prefix, Answers, cut, unknown}
 use Rattle.grammar.specs.Decoding.{decode_of}
 use Rattle.grammar.specs.Relative.{relative_of}
 use Rattle.grammar.specs.declared.instruction.Decoded.{Decoded}
-use Rattle.grammar.specs.declared.instruction.Found.{Found}
+use Rattle.std.specs.Prelude.{Ok, Err}
+use Rattle.grammar.specs.declared.instruction.Fault.{Fault}
 use Rattle.grammar.proofs.Answered.{decode_answers, found_standing, found_inside}
 use Rattle.blockcheck.specs.Blocks.{starts_from, Reached}
 use Rattle.blockcheck.specs.Passes.{mark_of, Coded, Divided, whole, cut_at, unknown_at}
@@ -39,7 +40,7 @@ cut_more done i = rw append-nil at (next i done)
 cut_more (next j later) i = rw append_assoc (next j (cut_more later i))
 
 -- the instruction found at the place is cut, and its start marked
-pub goes : {code marks : List ℕ} {at count : ℕ} (d : Decoded) → Dividing code marks at count → decode_of code at ≡ Found.Instruction d
+pub goes : {code marks : List ℕ} {at count : ℕ} (d : Decoded) → Dividing code marks at count → decode_of code at ≡ Ok d
     → Dividing code (set marks at (mark_of (relative_of d))) (at + d.length) (count + 1)
 unfolding starts_from
 goes {code} {at} d so e =
@@ -69,11 +70,11 @@ ends {code} {at} so h =
     rw (← so.counted) (whole c so.coded)
 
 -- where a cut instruction is found, the bytes are its prefix
-pub prefix_of : {bytes : List ℕ} → Answers bytes Found.Cut → Prefix bytes
+pub prefix_of : {bytes : List ℕ} → Answers bytes (Err Fault.Cut) → Prefix bytes
 prefix_of (cut p) = p
 
 -- the code ends inside the instruction at the place
-pub cuts : {code marks : List ℕ} {at count : ℕ} → Dividing code marks at count → at < length code → decode_of code at ≡ Found.Cut
+pub cuts : {code marks : List ℕ} {at count : ℕ} → Dividing code marks at count → at < length code → decode_of code at ≡ Err Fault.Cut
     → Divided code (Extent.CutAt at) marks
 cuts {code} {marks} {at} so h e =
     let here : length (take at code) ≡ at = length-take-le at code so.inside in
@@ -82,11 +83,11 @@ cuts {code} {marks} {at} so h e =
     rw here at is
 
 -- where nothing is found, the bytes neither begin with an instruction nor are a prefix of one
-unknown_of : {bytes : List ℕ} → Answers bytes Found.Unknown → (Begins bytes → ⊥) × (Prefix bytes → ⊥)
+unknown_of : {bytes : List ℕ} → Answers bytes (Err Fault.Unknown) → (Begins bytes → ⊥) × (Prefix bytes → ⊥)
 unknown_of (unknown b p) = (b, p)
 
 -- no instruction begins at the place
-pub stops : {code marks : List ℕ} {at count : ℕ} → Dividing code marks at count → decode_of code at ≡ Found.Unknown
+pub stops : {code marks : List ℕ} {at count : ℕ} → Dividing code marks at count → decode_of code at ≡ Err Fault.Unknown
     → Divided code (Extent.UnknownAt at) marks
 stops {code} {marks} {at} so e =
     let here : length (take at code) ≡ at = length-take-le at code so.inside in

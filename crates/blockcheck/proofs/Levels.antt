@@ -13,8 +13,9 @@ use Rattle.grammar.specs.Grammar.{Cut}
 use Rattle.grammar.specs.Decoding.{decode_of}
 use Rattle.grammar.specs.Relative.{relative_of}
 use Rattle.grammar.specs.declared.instruction.Decoded.{Decoded}
-use Rattle.grammar.specs.declared.instruction.Found.{Found}
-use Rattle.grammar.specs.declared.relative.Relative.{Relative}
+use Rattle.std.specs.Prelude.{Ok}
+use Rattle.grammar.specs.Relative.{Relative}
+use Rattle.std.specs.Prelude.{None, Some}
 use Rattle.blockcheck.specs.Blocks.{starts_from, marked}
 use Rattle.blockcheck.specs.Passes.{Shows, mark_of, level_of, levelled, Coded}
 use Rattle.blockcheck.proofs.Marking.{marked_length, marked_more, marked_start, start_marked}
@@ -27,8 +28,8 @@ level_some mark some = rw (ne_eqb mark 0 some)
 -- a start's mark is not 0
 mark_some : (r : Relative) → mark_of r ≡ 0 → ⊥
 unfolding mark_of
-mark_some Relative.Absent e = omega arith
-mark_some (Relative.By displacement) e = omega arith
+mark_some None e = omega arith
+mark_some (Some displacement) e = omega arith
 
 -- levelled marks are as many
 levelled_length : (marks : List ℕ) → length (levelled marks) ≡ length marks
@@ -70,9 +71,9 @@ module _ {code starts marks : List ℕ} (coded : Coded code starts marks) where
   pub coded_long : length marks ≡ length code
   coded_long = sym (levelled_length marks) ∙ ap length coded.level ∙ marked_length (length code) starts
 
-  module _ (at : ℕ) (d : Decoded) (h : at < length code) (found : decode_of code at ≡ Found.Instruction d) where
+  module _ (at : ℕ) (d : Decoded) (h : at < length code) (found : decode_of code at ≡ Ok d) where
     -- with one start more, each mark is its instruction's
-    told_more : (i : ℕ) → Dec (i ≡ at) → Memᴰ i (starts ++ (at ∷ [])) → (x : Decoded) → decode_of code i ≡ Found.Instruction x
+    told_more : (i : ℕ) → Dec (i ≡ at) → Memᴰ i (starts ++ (at ∷ [])) → (x : Decoded) → decode_of code i ≡ Ok x
         → get_or (set marks at (mark_of (relative_of d))) i 0 ≡ mark_of (relative_of x)
     told_more i (yes same) m x e =
         let is : x ≡ d = cc in

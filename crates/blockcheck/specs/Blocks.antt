@@ -4,7 +4,8 @@ use mathlib.Core.List.{List, [], ◌∷◌, ◌++◌, Memᴰ}
 use Rattle.grammar.specs.Grammar.{Instruction, Cut, done, next}
 use Rattle.grammar.specs.Answers.{Begins, Prefix, numbers}
 use Rattle.grammar.specs.Relative.{relative_of}
-use Rattle.grammar.specs.declared.relative.Relative.{Relative}
+use Rattle.grammar.specs.Relative.{Relative}
+use Rattle.std.specs.Prelude.{None, Some}
 use Rattle.blockcheck.specs.declared.Verdict.{Verdict}
 use Rattle.blockcheck.specs.declared.Verdict.TheVariants.{Accepted, BadLength, BadMarks, CutAt, UnknownAt, AstrayAt}
 
@@ -50,8 +51,8 @@ Lands starts address = (s : ℕ) × Memᴰ s starts × (address ≡ code_base + 
 
 -- a displacement, if there is one, leads to one of the starts
 pub data Arrives (starts : List ℕ) (i n : ℕ) : Relative → Type 0 where
-  no_displacement : Arrives starts i n Relative.Absent
-  arrives : {displacement : ℕ} → Lands starts (target_of i n displacement) → Arrives starts i n (Relative.By displacement)
+  no_displacement : Arrives starts i n None
+  arrives : {displacement : ℕ} → Lands starts (target_of i n displacement) → Arrives starts i n (Some displacement)
 
 -- the instruction with these bytes, at offset i, goes astray or not
 unfoldable pub Lawful : List ℕ → ℕ → (bytes : List ℕ) → Instruction bytes → Type 0

@@ -6,8 +6,9 @@ use Rattle.grammar.specs.Answers.{Begins, Prefix}
 use Rattle.grammar.specs.Decoding.{decode_of}
 use Rattle.grammar.specs.Relative.{relative_of}
 use Rattle.grammar.specs.declared.instruction.Decoded.{Decoded}
-use Rattle.grammar.specs.declared.instruction.Found.{Found}
-use Rattle.grammar.specs.declared.relative.Relative.{Relative}
+use Rattle.std.specs.Prelude.{Ok}
+use Rattle.grammar.specs.Relative.{Relative}
+use Rattle.std.specs.Prelude.{None, Some}
 use Rattle.blockcheck.specs.Blocks.{number_of, value_of, starts_from, Arrives, Good, Astray, marked, Reached, Judged}
 use Rattle.blockcheck.specs.declared.Verdict.{Verdict}
 use Rattle.blockcheck.specs.declared.dividing.Extent.{Extent}
@@ -24,8 +25,8 @@ pub record Shows (marks starts : List ℕ) : Type 0 where
 
 -- a start's mark between the passes: 2 where the instruction has a displacement
 unfoldable pub mark_of : Relative → ℕ
-mark_of Relative.Absent = 1
-mark_of (Relative.By displacement) = 2
+mark_of None = 1
+mark_of (Some displacement) = 2
 
 -- a mark after the passes: 1 for any that is not 0
 unfoldable pub level_of : ℕ → ℕ
@@ -38,7 +39,7 @@ levelled marks = map level_of marks
 -- the marks between the passes: levelled they are 1 at the starts, and at each start the mark is its instruction's
 pub record Coded (code starts marks : List ℕ) : Type 0 where
   pub level : levelled marks ≡ marked (length code) starts
-  pub told : (i : ℕ) → Memᴰ i starts → (d : Decoded) → decode_of code i ≡ Found.Instruction d → slice_index marks i ≡ mark_of (relative_of d)
+  pub told : (i : ℕ) → Memᴰ i starts → (d : Decoded) → decode_of code i ≡ Ok d → slice_index marks i ≡ mark_of (relative_of d)
 
 -- the code is cut whole and its starts are marked, or cutting comes no further than somewhere
 pub data Divided (code : List ℕ) : Extent → List ℕ → Type 0 where
@@ -57,7 +58,7 @@ pub record Whole (code marks : List ℕ) : Type 0 where
 
 -- the instruction at a place of the code has no displacement, or one that leads to one of the starts
 unfoldable pub Fine : List ℕ → List ℕ → ℕ → Type 0
-Fine code starts at = (d : Decoded) → decode_of code at ≡ Found.Instruction d → Arrives starts at d.length (relative_of d)
+Fine code starts at = (d : Decoded) → decode_of code at ≡ Ok d → Arrives starts at d.length (relative_of d)
 
 -- a flag says whether the look at a place goes on: it is no start, or its instruction is fine
 pub data Looked (code starts : List ℕ) (at : ℕ) : Bool → Type 0 where

@@ -3,9 +3,9 @@ ghost use Rattle.std.specs.Prelude.{◌≡◌, length, replicate};
 ghost use Rattle.grammar.specs.Relative.{relative_of};
 ghost use Rattle.blockcheck.specs.Passes.{mark_of, Divided};
 
-use grammar::instruction::{Decoded, Found};
+use grammar::instruction::{Decoded, Fault};
 use grammar::reader::read;
-use grammar::relative::{Relative, relative_of};
+use grammar::relative::relative_of;
 
 // How far the code can be cut.
 #[derive(Clone, Copy)]
@@ -23,8 +23,8 @@ fn mark_of(d: Decoded) -> u8
     ensures { result ≡ mark_of (relative_of d) }
 {
     match relative_of(d) {
-        Relative::Absent => 1,
-        Relative::By(_) => 2,
+        None => 1,
+        Some(_) => 2,
     }
 }
 
@@ -37,13 +37,13 @@ pub fn divide(code: &[u8], marks: &mut [u8]) -> Extent
     let mut count = 0;
     while at < code.len() {
         match read(code, at) {
-            Found::Instruction(d) => {
+            Ok(d) => {
                 marks[at] = mark_of(d);
                 at += d.length;
                 count += 1;
             }
-            Found::Cut => return Extent::CutAt(at),
-            Found::Unknown => return Extent::UnknownAt(at),
+            Err(Fault::Cut) => return Extent::CutAt(at),
+            Err(Fault::Unknown) => return Extent::UnknownAt(at),
         }
     }
     Extent::Whole(count)

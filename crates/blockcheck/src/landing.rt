@@ -4,9 +4,9 @@ ghost use Rattle.grammar.specs.Relative.{relative_of};
 ghost use Rattle.blockcheck.specs.Blocks.{target_of, Lands, Arrives};
 ghost use Rattle.blockcheck.specs.Passes.{Tells, Shows, Whole, Looks, Sought};
 
-use grammar::instruction::{Decoded, Found};
+use grammar::instruction::{Decoded, Fault};
 use grammar::reader::read;
-use grammar::relative::{Relative, relative_of};
+use grammar::relative::relative_of;
 
 // The address that a displacement leads to, from an instruction's offset and length.
 fn leads_to(at: usize, size: usize, displacement: u32) -> u32
@@ -37,8 +37,8 @@ fn arrives(marks: &[u8], at: usize, d: Decoded) -> bool
     ensures { (starts : List ℕ) → Shows marks.now starts → Tells (Arrives starts at d.length (relative_of d)) result }
 {
     match relative_of(d) {
-        Relative::Absent => true,
-        Relative::By(displacement) => lands(marks, leads_to(at, d.length, displacement)),
+        None => true,
+        Some(displacement) => lands(marks, leads_to(at, d.length, displacement)),
     }
 }
 
@@ -52,9 +52,9 @@ fn looks_well(code: &[u8], marks: &[u8], at: usize) -> bool
         return true;
     }
     match read(code, at) {
-        Found::Instruction(d) => arrives(marks, at, d),
-        Found::Cut => true,
-        Found::Unknown => true,
+        Ok(d) => arrives(marks, at, d),
+        Err(Fault::Cut) => true,
+        Err(Fault::Unknown) => true,
     }
 }
 

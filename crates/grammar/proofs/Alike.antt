@@ -9,7 +9,10 @@ use lib.Dec.{T, ltb, ltb→lt}
 use borrow.Author.Tests.{ne_eqb}
 use Rattle.grammar.specs.Choice.{pick, both}
 use Rattle.grammar.specs.Opcodes.{Line, forms, rule_of}
-use Rattle.grammar.specs.Rows.{rows, row_of, first_in, first_row}
+use Rattle.std.proofs.lemmas.List.{get_or_past}
+use Rattle.grammar.specs.declared.rows.TheConstants.{ROWS}
+use Rattle.grammar.specs.declared.rule.Row.{Row}
+use Rattle.grammar.specs.Rows.{rows, row_of, first_in, first_row, row_at}
 use Rattle.grammar.proofs.Below.{both_left, both_right, values, everywhere}
 use Rattle.grammar.proofs.Entries.{says_other, without_rule, NoneOf, not_listed, ends, lists_past}
 
@@ -61,3 +64,7 @@ alike f each past k row =
 pub row_rule : (k : ℕ) {r : ℕ} → r ≡ row_of k → rule_of (first_row r) ≡ rule_of k
 unfolding rows row_of first_in first_row rule_of forms ends
 row_rule = alike rule_of refl (λ k over. sym (without_rule k (lists_past forms 512 k tt over)))
+
+-- past the table there is no row
+pub row_past : (k : ℕ) → 512 ≤ k → row_at k ≡ Row.Unlisted
+row_past k over = get_or_past ROWS k Row.Unlisted over

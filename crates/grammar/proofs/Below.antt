@@ -115,7 +115,7 @@ values_at f i (suc n) (suc k) d h =
     values_at f (suc i) n k d (le_of_suc-le-suc h) ∙ ap f (suc-add i k ∙ sym (add-suc i k))
 
 -- what two functions give, one number after the other, being the same, they give the same at each of them
-carried : {A : Type 0} (f g : ℕ → A) (n : ℕ) → values f 0 n ≡ values g 0 n → (k : ℕ) → k < n → f k ≡ g k
+pub carried : {A : Type 0} (f g : ℕ → A) (n : ℕ) → values f 0 n ≡ values g 0 n → (k : ℕ) → k < n → f k ≡ g k
 carried {A} f g n e k h =
     ap f (sym (zero-add k)) ∙ sym (values_at f 0 n k (f k) h) ∙ ap (λ (l : List A). get_or l k (f k)) e ∙ values_at g 0 n k (f k) h ∙ ap g (zero-add k)
 

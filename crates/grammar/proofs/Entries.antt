@@ -11,7 +11,7 @@ use Rattle.grammar.specs.Choice.{pick, both, either}
 use Rattle.grammar.specs.Opcodes.{Line, Form, unlisted, listed, lists, forms, with66, with_f2, with_f3, asks_f3, repeats_of, entry_of, rule_of}
 use Rattle.grammar.specs.declared.rule.Prefix66.{Prefix66}
 use Rattle.grammar.specs.declared.rule.Rule.{Rule}
-use Rattle.grammar.specs.declared.rule.Entry.{Entry}
+use Rattle.std.specs.Prelude.{None, Some}
 use Rattle.grammar.proofs.Below.{both_left, both_right, both_right_fails}
 
 -- what lines say of an opcode that they do not list
@@ -26,14 +26,14 @@ says_other (l ∷ ls) other k none = by (both (leb l.first k) (leb k l.last)) no
     by false none later = later none
 
 -- an opcode that the lists do not name has no rule
-pub without_rule : (k : ℕ) → lists forms k ≡ false → rule_of k ≡ Entry.Unlisted
+pub without_rule : (k : ℕ) → lists forms k ≡ false → rule_of k ≡ None
 unfolding rule_of
 without_rule k none =
     ap (λ (f : Form). entry_of f (listed with66 Prefix66.Refused k) (repeats_of (listed asks_f3 false k) (listed with_f2 false k) (listed with_f3 false k)))
     (says_other forms unlisted k none)
 
 -- so the lists name each opcode that has one
-pub ruled_listed : (k : ℕ) {rule : Rule} → rule_of k ≡ Entry.Listed rule → lists forms k ≡ true
+pub ruled_listed : (k : ℕ) {rule : Rule} → rule_of k ≡ Some rule → lists forms k ≡ true
 ruled_listed k {rule} e = by (lists forms k) refl
   where
     by : (named : Bool) → lists forms k ≡ named → named ≡ true

@@ -9,19 +9,11 @@ ghost use Rattle.grammar.specs.declared.rule.Immediate.{Immediate};
 use crate::bytes::extended;
 use crate::instruction::Decoded;
 
-// The displacement of a jump, a call or a loop; other instructions have none.
-#[derive(Clone, Copy)]
-pub enum Relative {
-    Absent,
-    // A 32-bit number to add to the next instruction's place.
-    By(u32),
-}
-
 // One byte as a displacement, extended by sign.
-fn short(immediate: u32) -> Relative
+fn short(immediate: u32) -> Option<u32>
     ensures { result ≡ relative_by Immediate.Rel8 immediate }
 {
-    Relative::By(extended((immediate % 256) as u8))
+    Some(extended((immediate % 256) as u8))
 }
 
 // Whether an opcode is one of those from the first to the last.
@@ -49,20 +41,20 @@ fn has_rel32(opcode: usize) -> bool
 }
 
 // What an immediate is to an instruction's target.
-fn by_opcode(opcode: usize, immediate: u32) -> Relative
+fn by_opcode(opcode: usize, immediate: u32) -> Option<u32>
     ensures { result ≡ relative_in (rule_of opcode) immediate }
 {
     if has_rel8(opcode) {
         return short(immediate);
     }
     if has_rel32(opcode) {
-        return Relative::By(immediate);
+        return Some(immediate);
     }
-    Relative::Absent
+    None
 }
 
 // The displacement of a decoded instruction, where its opcode has one.
-pub fn relative_of(d: Decoded) -> Relative
+pub fn relative_of(d: Decoded) -> Option<u32>
     ensures { result ≡ relative_of d }
 {
     by_opcode(d.opcode, d.immediate)

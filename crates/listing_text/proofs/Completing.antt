@@ -5,7 +5,8 @@ use Prim.Native.Nat.{ℕ, zero, suc, ◌+◌, ◌-◌, ◌<◌, ◌≤◌}
 use native.Mathlib.Omega.{arith}
 use Rattle.grammar.specs.Decoding.{decode_of}
 use Rattle.grammar.specs.declared.instruction.Decoded.{Decoded}
-use Rattle.grammar.specs.declared.instruction.Found.{Found}
+use Rattle.std.specs.Prelude.{Ok, Err}
+use Rattle.grammar.specs.declared.instruction.Fault.{Fault}
 use Rattle.text.specs.Written.{Wrote}
 use Rattle.text.proofs.Writing.{wrote_none, wrote_both}
 use Rattle.listing_text.specs.Listing.{line_of, line_then, lines_from}
@@ -17,19 +18,19 @@ none_left code zero i h = refl
 none_left code (suc n) i h = absurd (omega arith)
 
 -- the code ends inside an instruction
-pub none_cut : (code : List ℕ) (n i : ℕ) → decode_of code i ≡ Found.Cut → lines_from code n i ≡ []
+pub none_cut : (code : List ℕ) (n i : ℕ) → decode_of code i ≡ (Err Fault.Cut) → lines_from code n i ≡ []
 unfolding lines_from line_then
 none_cut code zero i e = refl
 none_cut code (suc n) i e = rw e
 
 -- no instruction begins here
-pub none_unknown : (code : List ℕ) (n i : ℕ) → decode_of code i ≡ Found.Unknown → lines_from code n i ≡ []
+pub none_unknown : (code : List ℕ) (n i : ℕ) → decode_of code i ≡ (Err Fault.Unknown) → lines_from code n i ≡ []
 unfolding lines_from line_then
 none_unknown code zero i e = refl
 none_unknown code (suc n) i e = rw e
 
 -- an instruction stands here
-pub one_more : (code : List ℕ) (n i : ℕ) (d : Decoded) → 0 < n → decode_of code i ≡ Found.Instruction d
+pub one_more : (code : List ℕ) (n i : ℕ) (d : Decoded) → 0 < n → decode_of code i ≡ Ok d
     → lines_from code n i ≡ line_of i d.length d.opcode ++ lines_from code (n - 1) (i + d.length)
 unfolding lines_from line_then
 one_more code zero i d h e = absurd (omega arith)
@@ -47,7 +48,7 @@ begins code count out at = record { whole = λ w. w }
 
 -- with a line more, of as many bytes as the instruction has
 pub goes : {code out₀ out out' : List ℕ} {count at next next' offset left size : ℕ} (d : Decoded) → Completes code count out₀ at out next offset left
-    → 0 < left → decode_of code offset ≡ Found.Instruction d → size ≡ d.length → Wrote out next (line_of offset size d.opcode) next' out'
+    → 0 < left → decode_of code offset ≡ Ok d → size ≡ d.length → Wrote out next (line_of offset size d.opcode) next' out'
     → Completes code count out₀ at out' next' (offset + size) (left - 1)
 goes {code} {offset} {left} d so_far h e sized line =
     record { whole = λ w. so_far.whole (rw (one_more code left offset d h e, ← sized) (wrote_both line w)) }

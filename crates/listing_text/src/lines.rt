@@ -2,7 +2,7 @@
 ghost use Rattle.text.specs.Written.{Wrote};
 ghost use Rattle.listing_text.specs.Listing.{opcode_text, line_of, lines_from};
 
-use grammar::instruction::Found;
+use grammar::instruction::Fault;
 use grammar::reader::{own_bytes, read};
 use text::{put_byte, put_field, put_hex};
 
@@ -36,14 +36,14 @@ pub fn put_lines(code: &[u8], count: usize, out: &mut [u8], at: usize) -> usize
     let mut left = count;
     while left > 0 {
         match read(code, offset) {
-            Found::Instruction(instruction) => {
+            Ok(instruction) => {
                 let own = own_bytes(code, offset, instruction);
                 next = put_line(out, next, offset, own.len(), instruction.opcode);
                 offset += own.len();
                 left -= 1;
             }
-            Found::Cut => return next,
-            Found::Unknown => return next,
+            Err(Fault::Cut) => return next,
+            Err(Fault::Unknown) => return next,
         }
     }
     next

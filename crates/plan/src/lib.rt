@@ -7,7 +7,6 @@ ghost use Rattle.plan.specs.Addresses.{scaled_index, base_register, address_base
 ghost use Rattle.plan.specs.Plans.{size_of, operand_of, is_offset, offset_alone, address_in, next_of, plan_for, leads, plan_of};
 
 use grammar::instruction::Decoded;
-use grammar::relative::Relative;
 use grammar::rule::Repeat;
 use machine::registers::register;
 use sense::{Operation, Place, Sense};
@@ -201,12 +200,12 @@ pub fn plan_for(eip: u32, d: Decoded, s: Sense, operation: Operation, w: Size, t
 }
 
 // Where a displacement leads from the next instruction; with none, on.
-fn lead(relative: Relative, next: u32) -> u32
+fn lead(relative: Option<u32>, next: u32) -> u32
     ensures { result ≡ leads relative next }
 {
     match relative {
-        Relative::Absent => next,
-        Relative::By(displacement) => width::low(Size::Dword, next as u64 + displacement as u64),
+        None => next,
+        Some(displacement) => width::low(Size::Dword, next as u64 + displacement as u64),
     }
 }
 

@@ -10,7 +10,9 @@ use lib.Seq.{get_or-set_same, get_or-set_other}
 use borrow.Author.Tests.{eqb-true, eqb-false}
 use Rattle.machine.specs.declared.registers.Machine.{Machine}
 use Rattle.grammar.specs.declared.instruction.Decoded.{Decoded}
-use Rattle.grammar.specs.declared.instruction.Found.{Found}
+use Rattle.grammar.specs.Answers.{Found}
+use Rattle.std.specs.Prelude.{Ok, Err}
+use Rattle.grammar.specs.declared.instruction.Fault.{Fault}
 use Rattle.grammar.specs.Decoding.{decode_of}
 use Rattle.blockcheck.specs.Blocks.{code_base}
 use Rattle.plan.specs.Plans.{plan_of}
@@ -48,21 +50,21 @@ module _ (code : List ℕ) (eip : ℕ) where
         found f is c m d e = in_code (fixed_to code c) m d (λ z. away (sym e ∙ z)) (rw e low) (rw e high) ∙ rw (e, is)
 
         -- 3: cut
-        pub tells_cut : {s : Site} → Stops eip 3 s → decode_of code (eip - code_base) ≡ Found.Cut → Tells code eip s
+        pub tells_cut : {s : Site} → Stops eip 3 s → decode_of code (eip - code_base) ≡ Err Fault.Cut → Tells code eip s
         unfolding executed
-        tells_cut stops is = tells_stop stops (λ c m d e. found Found.Cut is c m d e)
+        tells_cut stops is = tells_stop stops (λ c m d e. found (Err Fault.Cut) is c m d e)
 
         -- 4: no such instruction
-        pub tells_unknown : {s : Site} → Stops eip 4 s → decode_of code (eip - code_base) ≡ Found.Unknown → Tells code eip s
+        pub tells_unknown : {s : Site} → Stops eip 4 s → decode_of code (eip - code_base) ≡ Err Fault.Unknown → Tells code eip s
         unfolding executed
-        tells_unknown stops is = tells_stop stops (λ c m d e. found Found.Unknown is c m d e)
+        tells_unknown stops is = tells_stop stops (λ c m d e. found (Err Fault.Unknown) is c m d e)
 
         -- an instruction: the step is that of its plan
         pub tells_plan : {s : Site} (i : Decoded) → s.planned ≡ true → s.eip ≡ eip → s.plan ≡ plan_of eip i
-            → decode_of code (eip - code_base) ≡ Found.Instruction i → Tells code eip s
+            → decode_of code (eip - code_base) ≡ Ok i → Tells code eip s
         unfolding executed site_step
         tells_plan i has place plan is =
-            record { place = place; is = λ c m d e. found (Found.Instruction i) is c m d e ∙ rw (has, plan, e) refl }
+            record { place = place; is = λ c m d e. found (Ok i) is c m d e ∙ rw (has, plan, e) refl }
 
 -- the step of a site that tells them is the step
 pub taken : {code : List ℕ} {eip : ℕ} {s : Site} → Tells code eip s → (constants : List ℕ) {m : Machine} {d after : List ℕ} {r : Stepped} → m.eip ≡ eip

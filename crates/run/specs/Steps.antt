@@ -8,7 +8,9 @@ use Rattle.machine.specs.declared.memory.Stored.TheVariants.{Done}
 use Rattle.machine.specs.Registers.{with_single}
 use Rattle.machine.specs.Memory.{load_of, stored_of, store_of}
 use Rattle.grammar.specs.Decoding.{decode_of}
-use Rattle.grammar.specs.declared.instruction.Found.{Found}
+use Rattle.grammar.specs.Answers.{Found}
+use Rattle.std.specs.Prelude.{Ok, Err}
+use Rattle.grammar.specs.declared.instruction.Fault.{Fault}
 use Rattle.blockcheck.specs.Blocks.{code_base}
 use Rattle.plan.specs.declared.Plan.{Plan}
 use Rattle.plan.specs.Addresses.{effective_address}
@@ -81,9 +83,9 @@ planned constants p m d = let a = operand_address p m in performed constants (re
 
 -- 3: cut; 4: no such instruction
 unfoldable pub executed : Fixed → Found → Machine → List ℕ → Moved
-executed fixed (Found.Instruction i) m d = planned fixed.constants (plan_of m.eip i) m d
-executed fixed Found.Cut m d = stop 3 m.eip
-executed fixed Found.Unknown m d = stop 4 m.eip
+executed fixed (Ok i) m d = planned fixed.constants (plan_of m.eip i) m d
+executed fixed (Err Fault.Cut) m d = stop 3 m.eip
+executed fixed (Err Fault.Unknown) m d = stop 4 m.eip
 
 -- 1: EIP is home; 2: EIP outside the code
 unfoldable pub step_of : Fixed → Machine → List ℕ → Moved

@@ -6,7 +6,7 @@ ghost use Rattle.run.specs.Sites.{site_step, Stops, Tells};
 ghost use Rattle.run.specs.Taking.{Takes};
 
 use crate::step::{Taken, follow, stops};
-use grammar::instruction::Found;
+use grammar::instruction::Fault;
 use grammar::reader::read;
 use grammar::rule::Repeat;
 use plan::{Address, Operand, Plan};
@@ -68,14 +68,14 @@ pub fn site_at(code: &[u8], eip: u32) -> Site
         return stopping(eip, 2);
     }
     match read(code, at) {
-        Found::Instruction(d) => Site {
+        Ok(d) => Site {
             planned: true,
             eip,
             plan: plan::plan_of(eip, d),
             number: 0,
         },
-        Found::Cut => stopping(eip, 3),
-        Found::Unknown => stopping(eip, 4),
+        Err(Fault::Cut) => stopping(eip, 3),
+        Err(Fault::Unknown) => stopping(eip, 4),
     }
 }
 

@@ -13,7 +13,9 @@ use Rattle.machine.specs.declared.memory.Loaded.{Loaded}
 use Rattle.machine.specs.declared.memory.Loaded.TheVariants.{Value}
 use Rattle.machine.specs.Memory.{load_of}
 use Rattle.grammar.specs.Decoding.{decode_of}
-use Rattle.grammar.specs.declared.instruction.Found.{Found}
+use Rattle.grammar.specs.Answers.{Found}
+use Rattle.std.specs.Prelude.{Ok, Err}
+use Rattle.grammar.specs.declared.instruction.Fault.{Fault}
 use Rattle.blockcheck.specs.Blocks.{code_base}
 use Rattle.sense.specs.declared.Bits.{Bits}
 use Rattle.sense.specs.declared.Arithmetic.{Arithmetic}
@@ -76,9 +78,9 @@ plan_undefined constants p m d =
 
 -- after the step of what is found at EIP
 unfoldable pub found_undefined : Fixed → Found → Machine → List ℕ → List Flag
-found_undefined fixed (Found.Instruction i) m d = plan_undefined fixed.constants (plan_of m.eip i) m d
-found_undefined fixed Found.Cut m d = []
-found_undefined fixed Found.Unknown m d = []
+found_undefined fixed (Ok i) m d = plan_undefined fixed.constants (plan_of m.eip i) m d
+found_undefined fixed (Err Fault.Cut) m d = []
+found_undefined fixed (Err Fault.Unknown) m d = []
 
 -- after a step
 unfoldable pub step_undefined : Fixed → Machine → List ℕ → List Flag

@@ -2,10 +2,10 @@
 use Rattle.plan.specs.Plans.{leads}
 use Rattle.plan.proofs.lead.Goals as goal
 
-pub returns-in-Absent : goal.returns-in-Absent
+pub returns-in-None : goal.returns-in-None
 unfolding leads
-returns-in-Absent c = simp c.in-Absent.is
+returns-in-None c = simp c.in-None.is
 
-pub returns-in-By : goal.returns-in-By
+pub returns-in-Some : goal.returns-in-Some
 unfolding leads
-returns-in-By c = simp (c.low.ensures.is, c.in-By.is)
+returns-in-Some c = simp (c.low.ensures.is, c.in-Some.is)

@@ -13,21 +13,21 @@ returns-then-mark-ne2 c =
 pub arrives-requires : goal.arrives-requires
 arrives-requires c =
     let a = c.args in
-    let e = sym c.read.ensures.is ∙ c.in-Instruction.is in
-    omega (arith, found_inside a.code.now a.at c.in-Instruction.d e)
+    let e = sym c.read.ensures.is ∙ c.in-Ok.is in
+    omega (arith, found_inside a.code.now a.at c.in-Ok.d e)
 
-pub returns-in-Instruction : goal.returns-in-Instruction
-returns-in-Instruction c =
+pub returns-in-Ok : goal.returns-in-Ok
+returns-in-Ok c =
     let a = c.args in
-    let e = sym c.read.ensures.is ∙ c.in-Instruction.is in
-    found_instruction a.code.now a.marks.now a.at c.in-Instruction.d e c.if-mark-ne2.false c.arrives.ensures
+    let e = sym c.read.ensures.is ∙ c.in-Ok.is in
+    found_instruction a.code.now a.marks.now a.at c.in-Ok.d e c.if-mark-ne2.false c.arrives.ensures
 
-pub returns-in-Cut : goal.returns-in-Cut
-returns-in-Cut c =
+pub returns-in-Err-Cut : goal.returns-in-Err-Cut
+returns-in-Err-Cut c =
     let a = c.args in
-    found_cut a.code.now a.marks.now a.at (sym c.read.ensures.is ∙ c.in-Cut.is)
+    found_cut a.code.now a.marks.now a.at (rw c.in-Err-Cut.field-0-is at (sym c.read.ensures.is ∙ c.in-Err-Cut.is))
 
-pub returns-in-Unknown : goal.returns-in-Unknown
-returns-in-Unknown c =
+pub returns-in-Err-Unknown : goal.returns-in-Err-Unknown
+returns-in-Err-Unknown c =
     let a = c.args in
-    found_unknown a.code.now a.marks.now a.at (sym c.read.ensures.is ∙ c.in-Unknown.is)
+    found_unknown a.code.now a.marks.now a.at (rw c.in-Err-Unknown.field-0-is at (sym c.read.ensures.is ∙ c.in-Err-Unknown.is))

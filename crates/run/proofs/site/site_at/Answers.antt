@@ -17,20 +17,20 @@ pub returns-then-code-at : goal.returns-then-code-at
 unfolding home code_base
 returns-then-code-at c = tells_past _ _ c.if-eip-eq4294901760.false c.if-eip-lt65536.false c.stopping-then-code-at.ensures c.if-code-at.true
 
-pub returns-in-Instruction : goal.returns-in-Instruction
+pub returns-in-Ok : goal.returns-in-Ok
 unfolding home code_base
-returns-in-Instruction c =
+returns-in-Ok c =
     tells_plan _ _ c.if-eip-eq4294901760.false c.if-eip-lt65536.false c.if-code-at.false _ refl refl c.plan_of.ensures
-    (sym c.read.ensures.is ∙ c.in-Instruction.is)
+    (sym c.read.ensures.is ∙ c.in-Ok.is)
 
-pub returns-in-Cut : goal.returns-in-Cut
+pub returns-in-Err-Cut : goal.returns-in-Err-Cut
 unfolding home code_base
-returns-in-Cut c =
-    tells_cut _ _ c.if-eip-eq4294901760.false c.if-eip-lt65536.false c.if-code-at.false c.stopping-in-Cut.ensures
-    (sym c.read.ensures.is ∙ c.in-Cut.is)
+returns-in-Err-Cut c =
+    tells_cut _ _ c.if-eip-eq4294901760.false c.if-eip-lt65536.false c.if-code-at.false c.stopping-in-Err-Cut.ensures
+    (rw c.in-Err-Cut.field-0-is at (sym c.read.ensures.is ∙ c.in-Err-Cut.is))
 
-pub returns-in-Unknown : goal.returns-in-Unknown
+pub returns-in-Err-Unknown : goal.returns-in-Err-Unknown
 unfolding home code_base
-returns-in-Unknown c =
-    tells_unknown _ _ c.if-eip-eq4294901760.false c.if-eip-lt65536.false c.if-code-at.false c.stopping-in-Unknown.ensures
-    (sym c.read.ensures.is ∙ c.in-Unknown.is)
+returns-in-Err-Unknown c =
+    tells_unknown _ _ c.if-eip-eq4294901760.false c.if-eip-lt65536.false c.if-code-at.false c.stopping-in-Err-Unknown.ensures
+    (rw c.in-Err-Unknown.field-0-is at (sym c.read.ensures.is ∙ c.in-Err-Unknown.is))
