@@ -1,8 +1,13 @@
 // The seven flags as a value, the flags word that they are packed in, the conditions on them, and the policy for an undefined flag.
 #![tactic(auto)]
 
+mod word;
+
+pub use word::Word;
+
 ghost use Rattle.std.specs.Prelude.{◌≡◌, ◌*◌, ◌<◌};
-ghost use Rattle.flags.specs.Word.{Word, AhWord, flags_of, passes, from_ah};
+ghost use Rattle.flags.specs.Word as W;
+ghost use Rattle.flags.specs.Word.{AhWord, flags_of, passes, from_ah};
 ghost use Rattle.flags.specs.Conditions.{meets};
 ghost use Rattle.flags.specs.Results.{undefined_flag, all_undefined, parity, resulting};
 
@@ -22,7 +27,7 @@ pub struct Flags {
 
 // The flags word of the flags.
 pub fn pack(f: Flags) -> u32
-    ensures { Word f result }
+    ensures { W.Word f result }
 {
     let low = 2
         + width::bit(f.cf)
