@@ -105,6 +105,14 @@ impl Machine {
         self.eip = eip;
     }
 
+    /// The flags, lent.
+    #[inline(always)]
+    pub fn flags(&self) -> &Word
+        ensures { result.now ≡ self.now.flags }
+    {
+        &self.flags
+    }
+
     /// Other flags.
     #[inline(always)]
     #[tactic(auto, unfolding(crate::specs::Registers::with_flags))]
