@@ -24,9 +24,8 @@ use Rattle.plan.specs.declared.Operand.TheVariants.{Register, Memory, Number}
 use Rattle.plan.specs.declared.Address.{Address}
 use Rattle.plan.specs.declared.Plan.{Plan}
 use Rattle.plan.specs.Addresses.{scaled_index, base_register, address_base, effective_address}
-use Rattle.effect.specs.declared.outcome.Outcome.TheVariants.{Sets}
-use Rattle.effect.specs.Outcomes.{Effect, Computed}
-use Rattle.effect.specs.Changes.{lent, held, framed}
+use Rattle.effect.specs.Outcomes.{Sets, Effect, Computed}
+use Rattle.effect.specs.Framed.{lent, held, framed}
 use Rattle.effect.specs.Words.{becomes, writes, sets, faults, onward, value, assign, assigned}
 use Rattle.effect.specs.Bits.{unit_of}
 use Rattle.effect.specs.Arithmetic.{arithmetic_address, settled, doubled, multiplied, multiplied_signed, quotient, divided, divided_signed, arithmetic_effect}

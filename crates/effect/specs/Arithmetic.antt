@@ -20,8 +20,7 @@ use Rattle.machine.specs.declared.registers.Machine.{Machine}
 use Rattle.machine.specs.Registers.{part, with_part, with_flags}
 use Rattle.sense.specs.declared.Arithmetic.{Arithmetic}
 use Rattle.plan.specs.declared.Plan.{Plan}
-use Rattle.effect.specs.Outcomes.{Effect, Computed}
-use Rattle.effect.specs.declared.outcome.Reads.{Reads}
+use Rattle.effect.specs.Outcomes.{Effect, Computed, Reads}
 use Rattle.effect.specs.Bits.{unit_of, bit_tested, bits_computed}
 use Rattle.effect.specs.Words.{becomes, faults, onward, value, assign, read_or, read_of}
 

@@ -2,13 +2,12 @@
 #![tactic(auto)]
 
 ghost use Rattle.std.specs.Prelude.{◌≡◌, ◌^◌, ◌<◌};
-ghost use Rattle.machine.specs.Lending.{Gives};
 ghost use Rattle.plan.specs.Addresses.{scaled_index, base_register, address_base, effective_address};
 ghost use Rattle.plan.specs.Plans.{size_of, operand_of, is_offset, offset_alone, address_in, next_of, plan_for, leads, plan_of};
 
 use grammar::instruction::Decoded;
 use grammar::rule::Repeat;
-use machine::registers::register;
+use machine::registers::Machine;
 use sense::{Operation, Place, Sense};
 use width::Size;
 
@@ -45,46 +44,44 @@ pub struct Plan {
     pub address: Address,
 }
 
-// A SIB byte's index: the register times 1, 2, 4 or 8; index 4 is none.
-fn scaled_index(regs: &[u32; 8], sib: u8) -> u64
-    ensures { (Gives regs.now (λ m. scaled_index m sib) result) × (result < 2 ^ 35) }
+/// A SIB byte's index: the register times 1, 2, 4 or 8; index 4 is none.
+#[tactic(auto, using(crate::proofs::Indexes::no_index, crate::proofs::Indexes::shifted, crate::proofs::Indexes::shifted_below))]
+fn scaled_index(m: &Machine, sib: u8) -> u64
+    ensures { (result ≡ scaled_index m.now sib) × (result < 2 ^ 35) }
 {
     let index = (sib / 8 % 8) as u32;
     if index == 4 {
         return 0;
     }
-    (register(regs, index) as u64) << (sib / 64)
+    (m.register(index) as u64) << (sib / 64)
 }
 
-// A base register by its number; with Mod 0 number 5 is none.
-fn base_register(regs: &[u32; 8], modrm: u8, i: u32) -> u32
-    ensures { Gives regs.now (λ m. base_register m modrm i) result }
+/// A base register by its number; with Mod 0 number 5 is none.
+#[tactic(auto, unfolding(crate::specs::Addresses::base_register))]
+fn base_register(m: &Machine, modrm: u8, i: u32) -> u32
+    ensures { result ≡ base_register m.now modrm i }
 {
-    if modrm / 64 != 0 {
-        return register(regs, i);
-    }
-    if i == 5 {
-        return 0;
-    }
-    register(regs, i)
+    if modrm / 64 == 0 && i == 5 { 0 } else { m.register(i) }
 }
 
-// What the displacement is added to: with R/M 4 what the SIB byte says, else a base register.
-fn address_base(regs: &[u32; 8], modrm: u8, sib: u8) -> u64
-    ensures { (Gives regs.now (λ m. address_base m modrm sib) result) × (result < 2 ^ 36) }
+/// What the displacement is added to: with R/M 4 what the SIB byte says, else a base register.
+#[tactic(auto, unfolding(crate::specs::Addresses::address_base))]
+fn address_base(m: &Machine, modrm: u8, sib: u8) -> u64
+    ensures { (result ≡ address_base m.now modrm sib) × (result < 2 ^ 36) }
 {
     let rm = (modrm % 8) as u32;
     if rm == 4 {
-        return base_register(regs, modrm, (sib % 8) as u32) as u64 + scaled_index(regs, sib);
+        return base_register(m, modrm, (sib % 8) as u32) as u64 + scaled_index(m, sib);
     }
-    base_register(regs, modrm, rm) as u64
+    base_register(m, modrm, rm) as u64
 }
 
-// The effective address.
-pub fn effective_address(regs: &[u32; 8], a: Address) -> u32
-    ensures { Gives regs.now (λ m. effective_address m a) result }
+/// The effective address, from the registers before the instruction.
+#[tactic(auto, unfolding(crate::specs::Addresses::effective_address))]
+pub fn effective_address(m: &Machine, a: Address) -> u32
+    ensures { result ≡ effective_address m.now a }
 {
-    let base = address_base(regs, a.modrm, a.sib);
+    let base = address_base(m, a.modrm, a.sib);
     width::low(Size::Dword, base + a.displacement as u64)
 }
 
