@@ -6,8 +6,7 @@ use lib.ListN.{length}
 use Rattle.machine.specs.declared.registers.Machine.{Machine}
 use Rattle.machine.specs.Memory.{constants_base}
 use Rattle.machine.proofs.Allowed.{constants_unwritten}
-use Rattle.effect.specs.declared.outcome.Outcome.TheVariants.{Writes}
-use Rattle.effect.specs.Outcomes.{Effect}
+use Rattle.effect.specs.Outcomes.{Writes, Effect}
 use Rattle.run.specs.Steps.{stop, stored, committed}
 
 -- a memory destination at a constant's address gives 6, with data of a length that is not refused

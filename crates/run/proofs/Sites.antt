@@ -6,7 +6,7 @@ use Rattle.grammar.specs.Answers.{Found}
 use Rattle.grammar.specs.declared.instruction.Fault.{Fault}
 use Rattle.grammar.specs.Decoding.{decode_of}
 use Rattle.blockcheck.specs.Blocks.{code_base}
-use Rattle.execute.specs.declared.words.Stop.TheVariants.{Home, OutsideCode}
+use Rattle.effect.specs.declared.stop.Stop.TheVariants.{Home, OutsideCode}
 use Rattle.run.specs.declared.site.Site.{Site}
 use Rattle.run.specs.Steps.{fixed_to, stop, executed, step_of, home, inside}
 use Rattle.run.specs.Sites.{plan_in, site_of, stepped, IsOf, Keeps}

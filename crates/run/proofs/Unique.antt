@@ -1,9 +1,9 @@
 -- A step and a run come to one answer: the number and the address tell why it ended. Assumes nothing.
 use Rattle.std.proofs.Common.{◌≡◌, ◌==◌, refl, sym, ap, ◌∙◌, ℕ, List, cond, Result, Ok, Err, arith}
 use Rattle.machine.specs.declared.registers.Machine.{Machine}
-use Rattle.execute.specs.declared.words.Stop as Stops
-use Rattle.execute.specs.declared.words.Stop.{Stop}
-use Rattle.execute.specs.Does.{number_of, address_of}
+use Rattle.effect.specs.declared.stop.Stop as Stops
+use Rattle.effect.specs.declared.stop.Stop.{Stop}
+use Rattle.effect.specs.Stops.{number_of, address_of}
 use Rattle.run.specs.declared.refusal.Refusal.{Refusal}
 use Rattle.run.specs.declared.step.Stopped.{Stopped}
 use Rattle.run.specs.declared.End.{End}

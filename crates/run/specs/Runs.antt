@@ -2,7 +2,7 @@
 use Rattle.std.specs.Prelude.{◌≡◌, not, ◌||◌, List, ℕ, zero, suc, length, if◌then◌else◌, nat_lt, ◌==◌}
 use Rattle.flags.specs.Word.{word_of, flags_of, passes}
 use Rattle.machine.specs.declared.registers.Machine.{Machine}
-use Rattle.execute.specs.Does as Stops
+use Rattle.effect.specs.Stops as Stops
 use Rattle.run.specs.declared.refusal.Refusal.{Refusal}
 use Rattle.run.specs.declared.End.{End}
 use Rattle.run.specs.declared.Lent.{Lent}

@@ -7,9 +7,9 @@ use Rattle.grammar.specs.Decoding.{decode_of}
 use Rattle.blockcheck.specs.Blocks.{code_base}
 use Rattle.plan.specs.declared.Plan.{Plan}
 use Rattle.plan.specs.Plans.{plan_of}
-use Rattle.execute.specs.declared.words.Stop.{Stop}
-use Rattle.execute.specs.declared.words.Stop.TheVariants.{Home, OutsideCode, Cut, Unknown}
-use Rattle.execute.specs.Does.{number_of, address_of}
+use Rattle.effect.specs.declared.stop.Stop.{Stop}
+use Rattle.effect.specs.declared.stop.Stop.TheVariants.{Home, OutsideCode, Cut, Unknown}
+use Rattle.effect.specs.Stops.{number_of, address_of}
 use Rattle.run.specs.declared.site.Site.{Site}
 use Rattle.run.specs.Steps.{Moved, stop, planned, home, inside}
 

@@ -6,10 +6,10 @@ use Rattle.grammar.specs.Answers.{Found}
 use Rattle.grammar.specs.declared.instruction.Fault.{Fault}
 use Rattle.blockcheck.specs.Blocks.{code_base}
 use Rattle.plan.specs.Plans.{plan_of}
-use Rattle.execute.specs.Does.{number_of, address_of}
+use Rattle.effect.specs.Stops.{number_of, address_of}
 use Rattle.run.specs.declared.step.Stopped.{Stopped}
-pub use Rattle.execute.specs.Moved.{Moved, next, stop}
-unfoldable pub use Rattle.execute.specs.Moved.{stored, committed, finished, loaded, performed, operand_address, planned}
+pub use Rattle.effect.specs.Performing.{Moved, next, stop}
+unfoldable pub use Rattle.effect.specs.Performing.{stored, committed, finished, loaded, performed, operand_address, planned}
 
 -- what all steps of a run share, lent and never written: the code and the constants
 pub record Fixed : Type 0 where

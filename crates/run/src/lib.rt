@@ -14,10 +14,10 @@ ghost use Rattle.run.specs.Refusals.{ended};
 
 use crate::refusal::admit;
 use crate::step::kept_step;
-use execute::Stop;
+use effect::Stop;
 use flags::Word;
-use machine2::Machine;
-use memory2::Memory;
+use machine::registers::Machine;
+use machine::memory::Memory;
 use scalar::Xmm;
 
 /// The machine as the caller lends it, and gets it back: with the flags word.
@@ -35,7 +35,18 @@ impl Lent {
     fn open(self) -> Machine
         ensures { result ≡ opened self }
     {
-        Machine::new(self.regs, self.xmm, self.eip, Word::of_bits(self.word))
+        let Lent {
+            regs,
+            xmm,
+            eip,
+            word,
+        } = self;
+        Machine {
+            regs,
+            xmm,
+            eip,
+            flags: Word::of_bits(word),
+        }
     }
 
     /// A machine as it is handed back: the word of its flags has no other bit.
@@ -44,9 +55,9 @@ impl Lent {
         ensures { result ≡ closed m.now }
     {
         Lent {
-            regs: *m.registers(),
-            xmm: *m.singles(),
-            eip: m.eip(),
+            regs: m.regs,
+            xmm: m.xmm,
+            eip: m.eip,
             word: flags::pack(m.flags().unpack()),
         }
     }

@@ -2,7 +2,7 @@
 ghost use Rattle.std.specs.Prelude.{◌≡◌};
 ghost use Rattle.run.specs.Sites.{site_of, Keeps};
 
-use execute::Stop;
+use effect::Stop;
 use grammar::instruction::Fault;
 use grammar::reader::read;
 use plan::Plan;

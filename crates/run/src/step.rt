@@ -1,13 +1,13 @@
 //! One step.
 ghost use Rattle.std.specs.Prelude.{◌≡◌};
-ghost use Rattle.execute.specs.Does.{Does};
+ghost use Rattle.effect.specs.Does.{Does};
 ghost use Rattle.run.specs.Steps.{fixed_to, step_of, Steps};
 ghost use Rattle.run.specs.Sites.{Keeps};
 
 use crate::site::{Site, plan_at, site_at};
-use execute::{Stop, execute};
-use machine2::Machine;
-use memory2::Memory;
+use effect::{Stop, execute};
+use machine::registers::Machine;
+use machine::memory::Memory;
 
 /// A step that stopped: the machine as it was, and why.
 #[derive(Drop)]
@@ -31,7 +31,7 @@ pub fn kept_step(
     ensures same_area { memory.new.area.ghost_name ≡ memory.old.area.ghost_name }
     ensures kept { Keeps code.now kept.new }
 {
-    let plan = plan_at(code, kept, m.eip())?;
+    let plan = plan_at(code, kept, m.eip)?;
     execute(m, &plan, memory)
 }
 
@@ -45,7 +45,7 @@ pub fn step(
 ) -> Result<Machine, Stopped>
     ensures { Steps (step_of (fixed_to code.now constants.now) m area.old) m area.old result area.new }
 {
-    let plan = match site_at(code, m.eip()) {
+    let plan = match site_at(code, m.eip) {
         Ok(plan) => plan,
         Err(stop) => return Err(Stopped { machine: m, stop }),
     };
