@@ -22,15 +22,12 @@ use Rattle.product.specs.declared.Division.TheVariants.{Parts, Fault}
 use Rattle.product.specs.Undefined.{product_undefined, division_undefined}
 use Rattle.product.proofs.Regardless as Products
 use Rattle.machine.specs.declared.registers.Machine.{Machine}
-use Rattle.machine.specs.declared.memory.Stored.{Stored}
-use Rattle.machine.specs.declared.memory.Stored.TheVariants.{Done}
+use Rattle.machine.specs.Memory.{Stored, Done}
 use Rattle.machine.specs.Registers.{register, with_register, with_eip, with_flags, with_xmm, with_single, part, with_part}
 use Rattle.sense.specs.declared.Bits.{Bits}
 use Rattle.sense.specs.declared.Arithmetic.{Arithmetic}
 use Rattle.plan.specs.declared.Plan.{Plan}
-use Rattle.effect.specs.declared.outcome.Outcome.{Outcome}
-use Rattle.effect.specs.declared.outcome.Outcome.TheVariants.{Becomes, Writes, Sets, Faults}
-use Rattle.effect.specs.Outcomes.{Effect, Computed}
+use Rattle.effect.specs.Outcomes.{Outcome, Becomes, Writes, Sets, Faults, Effect, Computed}
 use Rattle.effect.specs.Words.{becomes, faults, onward, value}
 use Rattle.effect.specs.Bits.{bit_tested, scanned, double_shifted, bits_computed}
 use Rattle.effect.specs.Arithmetic as Effects

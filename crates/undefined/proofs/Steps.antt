@@ -17,8 +17,7 @@ use Rattle.sense.specs.declared.Operation.{Operation}
 use Rattle.plan.specs.declared.Plan.{Plan}
 use Rattle.plan.specs.Addresses.{effective_address}
 use Rattle.plan.specs.Plans.{plan_of}
-use Rattle.effect.specs.declared.outcome.Reads.{Reads}
-use Rattle.effect.specs.declared.outcome.Reads.TheVariants.{Nothing, One, Two}
+use Rattle.effect.specs.Outcomes.{Reads, Nothing, One, Two}
 use Rattle.effect.specs.Arithmetic.{arithmetic_address, arithmetic_reads}
 use Rattle.effect.specs.All.{address_by, reads_by, effect_by}
 use Rattle.effect.proofs.Choosing.{chosen_both}

@@ -9,9 +9,7 @@ use Rattle.shift.specs.Undefined.{shift_undefined}
 use Rattle.bits.specs.Undefined.{test_undefined, scan_undefined, double_undefined}
 use Rattle.product.specs.Undefined.{product_undefined, division_undefined}
 use Rattle.machine.specs.declared.registers.Machine.{Machine}
-use Rattle.machine.specs.declared.memory.Loaded.{Loaded}
-use Rattle.machine.specs.declared.memory.Loaded.TheVariants.{Value}
-use Rattle.machine.specs.Memory.{load_of}
+use Rattle.machine.specs.Memory.{Loaded, Value, load_of}
 use Rattle.grammar.specs.Decoding.{decode_of}
 use Rattle.grammar.specs.Answers.{Found}
 use Rattle.std.specs.Prelude.{Ok, Err}
@@ -22,8 +20,7 @@ use Rattle.sense.specs.declared.Arithmetic.{Arithmetic}
 use Rattle.sense.specs.declared.Operation.{Operation}
 use Rattle.plan.specs.declared.Plan.{Plan}
 use Rattle.plan.specs.Plans.{plan_of}
-use Rattle.effect.specs.declared.outcome.Reads.{Reads}
-use Rattle.effect.specs.declared.outcome.Reads.TheVariants.{Nothing, One, Two}
+use Rattle.effect.specs.Outcomes.{Reads, Nothing, One, Two}
 use Rattle.effect.specs.Words.{value}
 use Rattle.effect.specs.All.{reads_by}
 use Rattle.run.specs.Steps.{Fixed, operand_address}
