@@ -21,6 +21,7 @@ use sense::Operation;
 pub fn execute(m: &mut Machine, p: &Plan, memory: &mut Memory) -> Result<(), Stop>
     ensures does { Does (planned memory.old.constants.now p.now m.old memory.old.area.now) m.old memory.old.area.now result m.new memory.new.area.now }
     ensures constants { memory.new.constants.now ≡ memory.old.constants.now }
+    ensures same_area { memory.new.area.ghost_name ≡ memory.old.area.ghost_name }
 {
     let a = plan::effective_address(m, p.address);
     match p.operation {

@@ -171,6 +171,7 @@ fn bits_computed(op: Bits, w: Size, d: u32, s: u32, count: u32, f: &Word) -> Rec
 fn settle(m: &mut Machine, p: &Plan, a: u32, c: Reckoned, memory: &mut Memory) -> Result<(), Stop>
     ensures does { Does (done (settled_by c m.old p.now a) m.old memory.old.area.now) m.old memory.old.area.now result m.new memory.new.area.now }
     ensures constants { memory.new.constants.now ≡ memory.old.constants.now }
+    ensures same_area { memory.new.area.ghost_name ≡ memory.old.area.ghost_name }
 {
     if let Some(v) = c.value {
         write(p.destination, p.size, a, v, memory).map_err(Stop::Write)?;
@@ -303,6 +304,7 @@ pub fn arithmetic(
 ) -> Result<(), Stop>
     ensures does { Does (did (got_of memory.old.constants.now memory.old.area.now (Op.arithmetic_reads p.now a)) (λ r s. Op.arithmetic_effect op m.old p.now a r) m.old memory.old.area.now) m.old memory.old.area.now result m.new memory.new.area.now }
     ensures constants { memory.new.constants.now ≡ memory.old.constants.now }
+    ensures same_area { memory.new.area.ghost_name ≡ memory.old.area.ghost_name }
 {
     let w = p.size;
     let r = fetch(p, a, memory).map_err(Stop::Read)?;

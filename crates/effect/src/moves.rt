@@ -58,6 +58,7 @@ fn smaller(w: Size) -> Size
 fn given(m: &mut Machine, p: &Plan, a: u32, v: u32, memory: &mut Memory) -> Result<(), Stop>
     ensures does { Does (done (W.assign p.now.destination a (W.onward m.old p.now) p.now.size v) m.old memory.old.area.now) m.old memory.old.area.now result m.new memory.new.area.now }
     ensures constants { memory.new.constants.now ≡ memory.old.constants.now }
+    ensures same_area { memory.new.area.ghost_name ≡ memory.old.area.ghost_name }
 {
     write(p.destination, p.size, a, v, memory).map_err(Stop::Write)?;
     m.set_eip(p.next);
@@ -83,6 +84,7 @@ fn chosen(m: &Machine, n: u32, p: &Plan, r: u32) -> u32
 pub fn moves(m: &mut Machine, op: Move, p: &Plan, a: u32, memory: &mut Memory) -> Result<(), Stop>
     ensures does { Does (did (got_of memory.old.constants.now memory.old.area.now (M.move_reads op p.now a)) (λ r s. M.move_effect op m.old p.now a r) m.old memory.old.area.now) m.old memory.old.area.now result m.new memory.new.area.now }
     ensures constants { memory.new.constants.now ≡ memory.old.constants.now }
+    ensures same_area { memory.new.area.ghost_name ≡ memory.old.area.ghost_name }
 {
     let w = p.size;
     match op {

@@ -31,6 +31,7 @@ fn value(m: &Machine, o: Operand, r: u32) -> u32
 fn given(m: &mut Machine, p: &Plan, a: u32, v: u32, memory: &mut Memory) -> Result<(), Stop>
     ensures does { Does (done (S.assign_single p.now.destination a (W.onward m.old p.now) v) m.old memory.old.area.now) m.old memory.old.area.now result m.new memory.new.area.now }
     ensures constants { memory.new.constants.now ≡ memory.old.constants.now }
+    ensures same_area { memory.new.area.ghost_name ≡ memory.old.area.ghost_name }
 {
     match p.destination {
         Operand::Register(i) => {
@@ -51,6 +52,7 @@ fn given(m: &mut Machine, p: &Plan, a: u32, v: u32, memory: &mut Memory) -> Resu
 pub fn move_single(m: &mut Machine, p: &Plan, a: u32, memory: &mut Memory) -> Result<(), Stop>
     ensures does { Does (did (got_of memory.old.constants.now memory.old.area.now (S.single_reads p.now a)) (λ r s. S.single_moved m.old p.now a r) m.old memory.old.area.now) m.old memory.old.area.now result m.new memory.new.area.now }
     ensures constants { memory.new.constants.now ≡ memory.old.constants.now }
+    ensures same_area { memory.new.area.ghost_name ≡ memory.old.area.ghost_name }
 {
     let r = fetch(p.source, Size::Dword, a, memory).map_err(Stop::Read)?;
     given(m, p, a, value(m, p.source, r), memory)
@@ -67,6 +69,7 @@ pub fn compute_single(
 ) -> Result<(), Stop>
     ensures does { Does (did (got_of memory.old.constants.now memory.old.area.now (S.single_reads p.now a)) (λ r s. S.single_computed op m.old p.now a r) m.old memory.old.area.now) m.old memory.old.area.now result m.new memory.new.area.now }
     ensures constants { memory.new.constants.now ≡ memory.old.constants.now }
+    ensures same_area { memory.new.area.ghost_name ≡ memory.old.area.ghost_name }
 {
     let r = fetch(p.source, Size::Dword, a, memory).map_err(Stop::Read)?;
     let x = value(m, p.destination, r);

@@ -47,6 +47,7 @@ fn below(m: &Machine) -> u32
 fn push(m: &mut Machine, v: u32, next: u32, memory: &mut Memory) -> Result<(), Stop>
     ensures does { Does (done (S.pushed (with_eip m.old next) v) m.old memory.old.area.now) m.old memory.old.area.now result m.new memory.new.area.now }
     ensures constants { memory.new.constants.now ≡ memory.old.constants.now }
+    ensures same_area { memory.new.area.ghost_name ≡ memory.old.area.ghost_name }
 {
     let top = below(m);
     memory.store(Size::Dword, top, v).map_err(Stop::Write)?;
@@ -60,6 +61,7 @@ fn push(m: &mut Machine, v: u32, next: u32, memory: &mut Memory) -> Result<(), S
 pub fn stack(m: &mut Machine, op: Stack, p: &Plan, a: u32, memory: &mut Memory) -> Result<(), Stop>
     ensures does { Does (did (got_of memory.old.constants.now memory.old.area.now (S.stack_reads op m.old p.now a)) (λ r s. S.stack_effect op m.old p.now a r) m.old memory.old.area.now) m.old memory.old.area.now result m.new memory.new.area.now }
     ensures constants { memory.new.constants.now ≡ memory.old.constants.now }
+    ensures same_area { memory.new.area.ghost_name ≡ memory.old.area.ghost_name }
 {
     let w = p.size;
     match op {

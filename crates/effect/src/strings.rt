@@ -40,6 +40,7 @@ fn pass(m: &mut Machine, w: Size, i: u32)
 fn round(m: &mut Machine, op: Strings, w: Size, memory: &mut Memory) -> Result<(), Stop>
     ensures does { Does (round_of memory.old.constants.now memory.old.area.now op m.old w) m.old memory.old.area.now result m.new memory.new.area.now }
     ensures constants { memory.new.constants.now ≡ memory.old.constants.now }
+    ensures same_area { memory.new.area.ghost_name ≡ memory.old.area.ghost_name }
 {
     let from = m.register(ESI);
     let to = m.register(EDI);
@@ -127,6 +128,7 @@ fn end_round(m: &mut Machine, op: Strings, p: &Plan)
 pub fn string(m: &mut Machine, op: Strings, p: &Plan, memory: &mut Memory) -> Result<(), Stop>
     ensures does { Does (string_of memory.old.constants.now memory.old.area.now op m.old p.now) m.old memory.old.area.now result m.new memory.new.area.now }
     ensures constants { memory.new.constants.now ≡ memory.old.constants.now }
+    ensures same_area { memory.new.area.ghost_name ≡ memory.old.area.ghost_name }
 {
     if idle(m, p.repeat) {
         m.set_eip(p.next);

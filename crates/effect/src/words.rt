@@ -42,6 +42,7 @@ pub fn write(o: Operand, w: Size, a: u32, v: u32, memory: &mut Memory) -> Result
     ensures data { memory.new.area.now ≡ written o memory.old.area.now w a v }
     ensures err { OnErr result (memory.new.area.now ≡ memory.old.area.now) }
     ensures constants { memory.new.constants.now ≡ memory.old.constants.now }
+    ensures same_area { memory.new.area.ghost_name ≡ memory.old.area.ghost_name }
 {
     match o {
         Operand::Memory => memory.store(w, a, v),

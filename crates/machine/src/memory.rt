@@ -136,6 +136,7 @@ impl<'a> Memory<'a> {
         ensures data { self.new.area.now ≡ store_of self.old.area.now w a v }
         ensures err { OnErr result (self.new.area.now ≡ self.old.area.now) }
         ensures constants { self.new.constants.now ≡ self.old.constants.now }
+        ensures same_area { self.new.area.ghost_name ≡ self.old.area.ghost_name }
     {
         let Some(at) = locate(DATA, self.area.len(), width::bytes(w), a) else {
             return Err(Outside {

@@ -6,10 +6,8 @@ use Prim.Native.Nat.{ℕ, ◌-◌}
 use lib.Dec.{eqb}
 use Rattle.scalar.specs.declared.Xmm.{Xmm}
 use Rattle.machine.specs.declared.registers.Machine.{Machine}
-use Rattle.machine.specs.declared.memory.Stored.{Stored}
-use Rattle.machine.specs.declared.memory.Stored.TheVariants.{Done}
+use Rattle.machine.specs.Memory.{Stored, Done, stored_of}
 use Rattle.machine.specs.Registers.{with_xmm}
-use Rattle.machine.specs.Memory.{stored_of}
 use Rattle.grammar.specs.Decoding.{decode_of}
 use Rattle.grammar.specs.declared.instruction.Decoded.{Decoded}
 use Rattle.grammar.specs.Answers.{Found}
@@ -18,11 +16,8 @@ use Rattle.grammar.specs.declared.instruction.Fault.{Fault}
 use Rattle.blockcheck.specs.Blocks.{code_base}
 use Rattle.plan.specs.declared.Plan.{Plan}
 use Rattle.plan.specs.Plans.{plan_of}
-use Rattle.effect.specs.declared.outcome.Outcome.{Outcome}
-use Rattle.effect.specs.declared.outcome.Outcome.TheVariants.{Becomes, Writes, Sets, Faults}
-use Rattle.effect.specs.declared.outcome.Reads.{Reads}
-use Rattle.effect.specs.Outcomes.{Effect}
-use Rattle.effect.specs.Changes.{framed}
+use Rattle.effect.specs.Outcomes.{Outcome, Becomes, Writes, Sets, Faults, Reads, Effect}
+use Rattle.effect.specs.Framed.{framed}
 use Rattle.effect.specs.Singles.{on_singles}
 use Rattle.effect.specs.All.{reads_by, effect_by}
 use Rattle.effect.proofs.Choosing.{chosen_both}

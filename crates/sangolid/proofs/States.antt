@@ -9,9 +9,9 @@ use borrow.Author.Tests.{eq-eqb, ne_eqb}
 use Rattle.blockcheck.specs.Blocks.{Judged}
 use Rattle.intel_hex.specs.Files.{Outcome}
 use Rattle.run.specs.declared.Lent.{Lent}
-use Rattle.run.specs.declared.Ran.{Ran}
+use Rattle.run.specs.declared.Ran as Code
 use Rattle.run.specs.Steps.{Fixed}
-use Rattle.run.specs.Runs.{Runs, run_of}
+use Rattle.run.specs.Runs.{Ran, told, Runs, run_of}
 use Rattle.machine.specs.Registers.{bits_in}
 use Rattle.sangolid.specs.Interface.{rest_of, misfit, lent_of, state_of, called, call_of, Calls, Checks, judged, word_of, Unhexes, unhexed}
 use Rattle.sangolid.proofs.Bounds.{steps_fit}
@@ -59,17 +59,18 @@ module _ (state : List ℕ) (fixed : Fixed) (d : List ℕ) (budget : ℕ) where
   calls_misfit wrong = rw (misfit_changes_nothing wrong) (record { is = refl; state_left = refl; area_left = refl })
 
   -- the run's number, with the state written whole
-  pub calls_run : length state ≡ 20 → {l : Lent} {r : Ran} {later after : List ℕ} → l ≡ lent_of state → Runs (run_of fixed l d budget) r after
-      → later ≡ state_of r
-      → Calls (call_of state fixed d budget) r.number later after
+  pub calls_run : length state ≡ 20 → {l : Lent} {r : Code.Ran} {later after : List ℕ} → l ≡ lent_of state → Runs (run_of fixed l d budget) r after
+      → later ≡ state_of (told r)
+      → Calls (call_of state fixed d budget) (told r).number later after
   unfolding call_of called
   calls_run long lending runs writing =
       rw (eq-eqb _ _ long, ← lending) (record { is = ap (λ (r : Ran). r.number) runs.is; state_left = writing ∙ ap state_of runs.is; area_left = runs.left })
 
 -- the steps that a run hands back fit a word
-pub ran_fits : (fixed : Fixed) (l : Lent) (d : List ℕ) (budget : ℕ) {r : Ran} {after : List ℕ} → Runs (run_of fixed l d budget) r after
+pub ran_fits : (fixed : Fixed) (l : Lent) (d : List ℕ) (budget : ℕ) {r : Code.Ran} {after : List ℕ} → Runs (run_of fixed l d budget) r after
     → r.steps < 2 ^ 32
-ran_fits fixed l d budget runs = rw runs.is (steps_fit fixed l d budget)
+unfolding told
+ran_fits fixed l d budget runs = let same = ap (λ (r : Ran). r.steps) runs.is in rw same (steps_fit fixed l d budget)
 
 -- a check's answer is written whole
 pub checks_judged : {code marks answer after : List ℕ} {n number v value : ℕ} → length answer ≡ 1 → Judged code marks number value after

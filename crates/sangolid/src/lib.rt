@@ -5,6 +5,7 @@ ghost use Rattle.std.specs.Prelude.{◌≡◌, [], ◌∷◌, ◌+◌, ◌<◌, 
 ghost use Rattle.std.proofs.lemmas.List.Edits.{sets};
 ghost use Rattle.blockcheck.specs.Blocks.{number_of, value_of};
 ghost use Rattle.run.specs.Steps.{fixed_to};
+ghost use Rattle.run.specs.Runs.{told};
 ghost use Rattle.sangolid.specs.Interface.{lent_of, rest_of, state_of, call_of, Calls, Checks, word_of, Unhexes};
 
 use blockcheck::Verdict;
@@ -70,13 +71,13 @@ fn put_rest(state: &mut [u32], m: Lent, steps: u32, address: u32)
 fn hand_back(state: &mut [u32], ran: Ran)
     requires state_len { length state.old ≡ 20 }
     requires steps_bound { ran.steps < 2 ^ 32 }
-    ensures { state.new ≡ state_of ran }
+    ensures { state.new ≡ state_of (told ran) }
 {
     let m = ran.machine;
     let regs = m.regs;
     put_four(state, 0, regs[0], regs[1], regs[2], regs[3]);
     put_four(state, 4, regs[4], regs[5], regs[6], regs[7]);
-    put_rest(state, m, ran.steps as u32, ran.address);
+    put_rest(state, m, ran.steps as u32, ran.address());
 }
 
 // Runs the block from the state, over the lent constants and data, and puts what comes back into the state.
@@ -94,7 +95,7 @@ pub fn sangolid_run(
     }
     let ran = run::run(lent(state), code, constants, area, budget);
     hand_back(state, ran);
-    ran.number
+    ran.number()
 }
 
 // The paper's number of an answer; 0 for acceptance.
