@@ -273,34 +273,12 @@ pub lifted : (op : Operation) → on_singles op ≡ false → (regs xmm : List �
 unfolding with_xmm
 lifted op other regs xmm eip word p a r s is = framing op other (held regs eip word) (xmm_of xmm) p a r s ∙ ap (framed (xmm_of xmm)) is
 
-module _ (regs xmm : List ℕ) (eip word : ℕ) where
-  -- and asks them neither for an effective address
-  pub effective_lent : (a : Address) → effective_address (lent regs xmm eip word) a ≡ effective_address (held regs eip word) a
-  unfolding with_xmm
-  effective_lent a = effective_framed (held regs eip word) (xmm_of xmm) a
-
-  -- nor for where its operand is
-  pub address_lent : (op : Operation) (p : Plan) (a : ℕ) → address_by op (lent regs xmm eip word) p a ≡ address_by op (held regs eip word) p a
-  unfolding with_xmm
-  address_lent op p a = address_framed (held regs eip word) (xmm_of xmm) op p a
-
-  -- nor for what it reads
-  pub reads_lent : (op : Operation) (p : Plan) (a : ℕ) → reads_by op (lent regs xmm eip word) p a ≡ reads_by op (held regs eip word) p a
-  unfolding with_xmm
-  reads_lent op p a = reads_framed (held regs eip word) (xmm_of xmm) op p a
-
 -- a single assigned: which one, and its bits, hang on no other
-single_framed : (o : Operand) (a : ℕ) (m : Machine) (xmm : List Xmm) (v : ℕ) → assign_single o a (with_xmm m xmm) v ≡ framed xmm (assign_single o a m v)
+pub single_framed : (o : Operand) (a : ℕ) (m : Machine) (xmm : List Xmm) (v : ℕ) → assign_single o a (with_xmm m xmm) v ≡ framed xmm (assign_single o a m v)
 unfolding with_xmm becomes writes sets assign_single framed
 single_framed (Register i) a m xmm v = refl
 single_framed Memory a m xmm v = refl
 single_framed (Number n) a m xmm v = refl
-
--- the same beside lent XMM registers
-pub assigned_beside : (o : Operand) (a : ℕ) (regs xmm : List ℕ) (next word v : ℕ) {e : Effect}
-    → assign_single o a (held regs next word) v ≡ e → assign_single o a (lent regs xmm next word) v ≡ framed (xmm_of xmm) e
-unfolding with_xmm
-assigned_beside o a regs xmm next word v is = single_framed o a (held regs next word) (xmm_of xmm) v ∙ ap (framed (xmm_of xmm)) is
 
 -- a single assigned leaves the machine's singles as they are, for the put
 assigned_single : (o : Operand) (a : ℕ) (m : Machine) (v : ℕ) → (assign_single o a m v).machine.xmm ≡ m.xmm

@@ -149,8 +149,8 @@ pub fn moves(m: &mut Machine, op: Move, p: &Plan, a: u32, memory: &mut Memory) -
             Ok(())
         }
         Move::MovIf(n) => {
-            let r = fetch(p.source, w, a, memory).map_err(Stop::Read)?;
-            given(m, p, a, chosen(m, n, p, r), memory)
+            let s = fetch(p.source, w, a, memory).map_err(Stop::Read)?;
+            given(m, p, a, chosen(m, n, p, s), memory)
         }
     }
 }

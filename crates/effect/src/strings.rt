@@ -8,8 +8,8 @@ ghost use Rattle.effect.specs.Rounds.{after, round_of, string_of};
 use crate::branches::counted;
 use crate::stop::Stop;
 use arith::Binary;
-use grammar::rule::Repeat;
 use flags::Word;
+use grammar::rule::Repeat;
 use machine::memory::Memory;
 use machine::registers::{EAX, ECX, EDI, ESI, Machine};
 use plan::Plan;
@@ -46,8 +46,8 @@ fn round(m: &mut Machine, op: Strings, w: Size, memory: &mut Memory) -> Result<(
     let to = m.register(EDI);
     match op {
         Strings::Movs => {
-            let r = memory.load(w, from).map_err(Stop::Read)?;
-            memory.store(w, to, r).map_err(Stop::Write)?;
+            let moved = memory.load(w, from).map_err(Stop::Read)?;
+            memory.store(w, to, moved).map_err(Stop::Write)?;
             pass(m, w, ESI);
             pass(m, w, EDI);
         }

@@ -4,8 +4,8 @@ ghost use Rattle.effect.specs.Words as W;
 ghost use Rattle.machine.specs.Answers.{stored_as};
 ghost use Rattle.effect.specs.Does.{got_of, got_as, wrote, written};
 
-use machine::registers::Machine;
 use machine::memory::{Memory, Outside};
+use machine::registers::Machine;
 use plan::Operand;
 use width::Size;
 

@@ -27,7 +27,11 @@ fn locate(base: u32, len: usize, n: usize, a: u32) -> Option<usize>
     ensures { result ≡ place_of base len n a }
 {
     let at = a.checked_sub(base)? as usize;
-    if at <= len.checked_sub(n)? { Some(at) } else { None }
+    if at <= len.checked_sub(n)? {
+        Some(at)
+    } else {
+        None
+    }
 }
 
 /// The first address from a on that is not in an area of so many bytes at a base.

@@ -61,7 +61,11 @@ fn scaled_index(m: &Machine, sib: u8) -> u64
 fn base_register(m: &Machine, modrm: u8, i: u32) -> u32
     ensures { result ≡ base_register m.now modrm i }
 {
-    if modrm / 64 == 0 && i == 5 { 0 } else { m.register(i) }
+    if modrm / 64 == 0 && i == 5 {
+        0
+    } else {
+        m.register(i)
+    }
 }
 
 /// What the displacement is added to: with R/M 4 what the SIB byte says, else a base register.
