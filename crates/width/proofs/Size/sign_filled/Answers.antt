@@ -1,8 +1,8 @@
--- `width::sign_filled` meets its contract: all ones, or zero. Assumes nothing.
+-- `Size::sign_filled` meets its contract: all ones, or zero. Assumes nothing.
 use Rattle.std.proofs.Common.{◌∙◌, arith}
 use Rattle.width.specs.Numbers.{sign_filled}
 use Rattle.width.proofs.Widths.{numbers, filled}
-use Rattle.width.proofs.sign_filled.Goals as goal
+use Rattle.width.proofs.Size.sign_filled.Goals as goal
 
 pub returns-then-negative : goal.returns-then-negative
 unfolding sign_filled
@@ -12,4 +12,4 @@ returns-then-negative c =
 
 pub returns-else-negative : goal.returns-else-negative
 unfolding sign_filled
-returns-else-negative c = let nums = numbers c.args.w in rw (← c.negative.ensures, c.if-negative.false) (omega arith)
+returns-else-negative c = let nums = numbers c.args.self in rw (← c.negative.ensures, c.if-negative.false) (omega arith)

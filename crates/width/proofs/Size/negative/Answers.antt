@@ -1,6 +1,6 @@
--- `width::negative` meets its contract. Assumes nothing.
+-- `Size::negative` meets its contract. Assumes nothing.
 use Rattle.width.specs.Numbers.{negative}
-use Rattle.width.proofs.negative.Goals as goal
+use Rattle.width.proofs.Size.negative.Goals as goal
 
 pub returns : goal.returns
 unfolding negative
