@@ -1,5 +1,5 @@
--- `arith::misfits` meets its contract: the half added on the other side of each test. Assumes nothing.
-use mathlib.Core.Path.{◌≡◌}
+-- `Integer::outside` meets its contract: the half added on the other side of each test. Assumes nothing.
+use mathlib.Core.Path.{◌≡◌, ◌∙◌}
 use Prim.Native.Nat.{ℕ, ◌+◌, ◌-◌, ◌<◌, ◌≤◌}
 use native.Mathlib.Decide.{dec_le}
 use native.Mathlib.Omega.{arith}
@@ -10,7 +10,7 @@ use Rattle.width.specs.declared.Size.{Size}
 use Rattle.width.specs.Sizes.{half}
 use Rattle.width.specs.Numbers.{outside}
 use Rattle.width.proofs.Widths.{outside_of}
-use Rattle.arith.proofs.misfits.Goals as goal
+use Rattle.arith.proofs.integers.Integer.outside.Goals as goal
 
 -- further below zero than half
 under : (w : Size) (p q : ℕ) → p + half w < q → ltb (p + half w) q ≡ outside w (sub_ℕ p q)
@@ -27,8 +27,10 @@ over w p q h = by (dec_le q p) (dec_le (q + half w) p)
     by (no e) f =
         rw (outside_of w p q, lt-ltb p q (omega arith), lt-leb (q + half w) p (omega arith), le-ltb (half w) (q - p) (omega arith))
 
-pub returns-then-p-h : goal.returns-then-p-h
-returns-then-p-h c = rw c.half-h.ensures (under _ _ _ (rw (← c.half-h.ensures) c.if-p-h.true))
+pub returns-then-self-h : goal.returns-then-self-h
+returns-then-self-h c =
+    let h = c.from-h.ensures ∙ c.half.ensures in rw h (under _ _ _ (rw h at c.if-self-h.true))
 
-pub returns-else-p-h : goal.returns-else-p-h
-returns-else-p-h c = rw c.half-h.ensures (over _ _ _ (rw (← c.half-h.ensures) c.if-p-h.false))
+pub returns-else-self-h : goal.returns-else-self-h
+returns-else-self-h c =
+    let h = c.from-h.ensures ∙ c.half.ensures in rw h (over _ _ _ (rw h at c.if-self-h.false))
