@@ -1,7 +1,7 @@
--- `product::rest` meets its contract: 2 ^ 64 is a multiple of the modulus. Assumes nothing.
+-- `Signed::rest` meets its contract: 2 ^ 64 is a multiple of the modulus. Assumes nothing.
 use Rattle.std.proofs.Common.{◌∙◌}
 use Rattle.product.proofs.Squares.{low_half}
-use Rattle.product.proofs.rest.Goals as goal
+use Rattle.product.proofs.Signed.rest.Goals as goal
 
 pub returns : goal.returns
 returns c =
