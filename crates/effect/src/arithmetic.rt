@@ -12,7 +12,7 @@ use crate::words::{assign, becomes, faults, none, read_of, read_or, value};
 use arith::{Binary, Single};
 use machine::registers::{part, part_change};
 use plan::Plan;
-use product::Division;
+use product::Parts;
 use sense::{Arithmetic, Bits};
 use shift::Shift;
 use width::Size;
@@ -188,20 +188,20 @@ fn multiplied_signed(regs: &[u32; 8], word: u32, p: Plan, b: u32) -> Changes
 }
 
 // Quotient to the accumulator, remainder to the upper half's register; the status flags are undefined.
-fn quotient(d: Division, regs: &[u32; 8], eip: u32, word: u32, p: Plan) -> Changes
+fn quotient(d: Option<Parts>, regs: &[u32; 8], eip: u32, word: u32, p: Plan) -> Changes
     ensures { Op.quotient d (held regs.now eip word) p ≡ applied result regs.now }
 {
     match d {
-        Division::Parts {
+        Some(Parts {
             quotient: q,
             remainder: r,
-        } => {
+        }) => {
             let w = p.size;
             let f = flags::unpack(word);
             let g = flags::all_undefined(f);
             doubled(regs, p.next, flags::pack(g), w, q, r)
         }
-        Division::Fault => faults(eip, word),
+        None => faults(eip, word),
     }
 }
 

@@ -20,7 +20,7 @@ pub const ECX: u32 = 1;
 pub fn less_one(n: u32) -> u32
     ensures { result ≡ rest Size.Dword (sub_ℕ n 1) }
 {
-    width::low(Size::Dword, n as u64 + 0x2_0000_0000 - 1)
+    Size::Dword.low(n as u64 + 0x2_0000_0000 - 1)
 }
 
 // The target if the test holds, else the next instruction.

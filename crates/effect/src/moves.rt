@@ -78,7 +78,7 @@ fn converted(regs: &[u32; 8], word: u32, p: Plan) -> Changes
 {
     let w = p.size;
     let from = smaller(w);
-    let v = width::sign_extended(from, w, part(regs, from, 0));
+    let v = from.sign_extended(w, part(regs, from, 0));
     loads(regs, p.next, word, w, 0, v)
 }
 
@@ -87,7 +87,7 @@ fn spread(regs: &[u32; 8], word: u32, p: Plan) -> Changes
     ensures { (a r : ℕ) → Changing regs.now word (λ m. M.move_effect Move.Spread m p a r) result }
 {
     let w = p.size;
-    let v = width::sign_filled(w, part(regs, w, 0));
+    let v = w.sign_filled(part(regs, w, 0));
     loads(regs, p.next, word, w, 2, v)
 }
 
@@ -118,7 +118,7 @@ fn ah_stored(regs: &[u32; 8], word: u32, p: Plan) -> Changes
 fn condition_bit(n: u32, word: u32) -> u32
     ensures { result ≡ bit (meets n (flags_of word)) }
 {
-    width::bit(flags::meets(n, flags::unpack(word))) as u32
+    u32::from(flags::meets(n, flags::unpack(word)))
 }
 
 // CMOVcc: SRC if the condition is met, else what DEST was.
@@ -144,7 +144,7 @@ pub fn move_effect(op: Move, regs: &[u32; 8], word: u32, p: Plan, a: u32, r: u32
     let v = match op {
         Move::Mov => words::value(s, regs, r, w),
         Move::MovZero(from) => words::value(s, regs, r, from),
-        Move::MovSign(from) => width::sign_extended(from, w, words::value(s, regs, r, from)),
+        Move::MovSign(from) => from.sign_extended(w, words::value(s, regs, r, from)),
         Move::Lea => a,
         Move::Xchg => return swapped(regs, word, p, a, r),
         Move::Convert => return converted(regs, word, p),

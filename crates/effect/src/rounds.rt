@@ -30,16 +30,14 @@ const EDI: u32 = 7;
 fn up(a: u32, w: Size) -> u32
     ensures { result ≡ rest Size.Dword (pos (a + bytes w)) }
 {
-    width::low(Size::Dword, a as u64 + width::bytes(w) as u64)
+    Size::Dword.low(a as u64 + w.bytes() as u64)
 }
 
 // The address of the element before.
 fn down(a: u32, w: Size) -> u32
     ensures { result ≡ rest Size.Dword (sub_ℕ a (bytes w)) }
 {
-    width::low(
-        Size::Dword,
-        a as u64 + 0x2_0000_0000 - width::bytes(w) as u64,
+    Size::Dword.low(a as u64 + 0x2_0000_0000 - w.bytes() as u64,
     )
 }
 

@@ -23,21 +23,21 @@ const EBP: u32 = 5;
 fn above(a: u32, n: u32) -> u32
     ensures { result ≡ rest Size.Dword (pos (a + n)) }
 {
-    width::low(Size::Dword, a as u64 + n as u64)
+    Size::Dword.low(a as u64 + n as u64)
 }
 
 // The address 4 + n bytes above another.
 fn released(a: u32, n: u32) -> u32
     ensures { result ≡ rest Size.Dword (pos (a + (4 + n))) }
 {
-    width::low(Size::Dword, a as u64 + (4 + n as u64))
+    Size::Dword.low(a as u64 + (4 + n as u64))
 }
 
 // The address 4 bytes below another.
 fn below(a: u32) -> u32
     ensures { result ≡ rest Size.Dword (sub_ℕ a 4) }
 {
-    width::low(Size::Dword, a as u64 + 0x2_0000_0000 - 4)
+    Size::Dword.low(a as u64 + 0x2_0000_0000 - 4)
 }
 
 // PUSH: ESP ← ESP - 4; the doubleword at ESP ← v.

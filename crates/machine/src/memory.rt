@@ -150,7 +150,7 @@ fn first_unread(constants: &[u8], area: &[u8], a: u32) -> u32
 pub fn load<'a>(constants: &'a [u8], area: &'a [u8], w: Size, a: u32) -> Loaded
     ensures { result ≡ load_of constants.now area.now w a }
 {
-    let part = held(constants, area, width::bytes(w), a);
+    let part = held(constants, area, w.bytes(), a);
     if part.len() == 0 {
         return Loaded::Outside(first_unread(constants, area, a));
     }
@@ -200,7 +200,7 @@ fn put(area: &mut [u8], at: usize, w: Size, v: u32)
 pub fn store(area: &mut [u8], w: Size, a: u32, v: u32) -> Stored
     ensures { (result ≡ stored_of area.old w a) × (area.new ≡ store_of area.old w a v) }
 {
-    match locate(DATA, area.len(), width::bytes(w), a) {
+    match locate(DATA, area.len(), w.bytes(), a) {
         Located::At(at) => {
             put(area, at, w, v);
             Stored::Done

@@ -85,7 +85,7 @@ pub fn effective_address(regs: &[u32; 8], a: Address) -> u32
     ensures { Gives regs.now (λ m. effective_address m a) result }
 {
     let base = address_base(regs, a.modrm, a.sib);
-    width::low(Size::Dword, base + a.displacement as u64)
+    Size::Dword.low(base + a.displacement as u64)
 }
 
 // Bytes; else words under 66, and doublewords without.
@@ -115,7 +115,7 @@ pub fn operand_at(place: Place, d: Decoded, w: Size) -> Operand
         Place::Accumulator => Operand::Register(0),
         Place::OpcodeRegister => Operand::Register((d.opcode % 8) as u32),
         Place::Immediate => Operand::Number(d.immediate),
-        Place::SignedImmediate => Operand::Number(width::sign_extended(Size::Byte, w, d.immediate)),
+        Place::SignedImmediate => Operand::Number(Size::Byte.sign_extended(w, d.immediate)),
         Place::Offset => Operand::Memory,
         Place::One => Operand::Number(1),
         Place::Cl => Operand::Register(1),
@@ -175,7 +175,7 @@ pub fn next_of(eip: u32, d: Decoded) -> u32
     ensures { result ≡ next_of eip d }
 {
     let size = (d.length % 0x1_0000_0000) as u64;
-    width::low(Size::Dword, eip as u64 + size)
+    Size::Dword.low(eip as u64 + size)
 }
 
 // The plan, from what the opcode means, its operation and its size.
@@ -205,7 +205,7 @@ fn lead(relative: Option<u32>, next: u32) -> u32
 {
     match relative {
         None => next,
-        Some(displacement) => width::low(Size::Dword, next as u64 + displacement as u64),
+        Some(displacement) => Size::Dword.low(next as u64 + displacement as u64),
     }
 }
 
