@@ -192,10 +192,12 @@ fn quotient(d: Option<Parts>, regs: &[u32; 8], eip: u32, word: u32, p: Plan) -> 
     ensures { Op.quotient d (held regs.now eip word) p ≡ applied result regs.now }
 {
     match d {
-        Some(Parts {
-            quotient: q,
-            remainder: r,
-        }) => {
+        Some(
+            Parts {
+                quotient: q,
+                remainder: r,
+            },
+        ) => {
             let w = p.size;
             let f = flags::unpack(word);
             let g = flags::all_undefined(f);

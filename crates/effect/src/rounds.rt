@@ -37,8 +37,7 @@ fn up(a: u32, w: Size) -> u32
 fn down(a: u32, w: Size) -> u32
     ensures { result ≡ rest Size.Dword (sub_ℕ a (bytes w)) }
 {
-    Size::Dword.low(a as u64 + 0x2_0000_0000 - w.bytes() as u64,
-    )
+    Size::Dword.low(a as u64 + 0x2_0000_0000 - w.bytes() as u64)
 }
 
 // A register moved on by one element: up with DF clear, down with DF set; also among registers of which others have changed.

@@ -5,12 +5,12 @@ use Rattle.flags.proofs.RoundTrips.{unpacked}
 use Rattle.machine.specs.Registers.{with_eip, with_flags}
 use Rattle.effect.proofs.arithmetic.quotient.Goals as goal
 
-pub returns-in-Parts : goal.returns-in-Parts
+pub returns-in-Some : goal.returns-in-Some
 unfolding quotient onward with_eip with_flags
-returns-in-Parts c =
-    rw (c.in-Parts.is, ← c.doubled.ensures)
+returns-in-Some c =
+    rw (c.in-Some.is, ← c.doubled.ensures)
     (simp (c.pack.ensures.is, unpacked, c.all_undefined-g.ensures, c.unpack-f.ensures))
 
-pub returns-in-Fault : goal.returns-in-Fault
+pub returns-in-None : goal.returns-in-None
 unfolding quotient
-returns-in-Fault c = simp (c.in-Fault.is, c.faults.ensures)
+returns-in-None c = simp (c.in-None.is, c.faults.ensures)

@@ -1,5 +1,6 @@
 -- `moves::condition_bit` meets its contract. Assumes nothing.
+use Rattle.width.proofs.Truths.{truth}
 use Rattle.effect.proofs.moves.condition_bit.Goals as goal
 
 pub returns : goal.returns
-returns c = simp (c.bit.ensures.is, c.meets.ensures, c.unpack.ensures)
+returns c = simp (c.from.ensures, (truth c.meets.result).is, c.meets.ensures, c.unpack.ensures)
