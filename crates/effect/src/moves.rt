@@ -98,7 +98,7 @@ pub fn moves(m: &mut Machine, op: Move, p: &Plan, a: u32, memory: &mut Memory) -
         }
         Move::MovSign(from) => {
             let r = fetch(p.source, from, a, memory).map_err(Stop::Read)?;
-            let v = width::sign_extended(from, w, value(m, p.source, r, from));
+            let v = from.sign_extended(w, value(m, p.source, r, from));
             given(m, p, a, v, memory)
         }
         Move::Lea => given(m, p, a, a, memory),
@@ -114,13 +114,13 @@ pub fn moves(m: &mut Machine, op: Move, p: &Plan, a: u32, memory: &mut Memory) -
         }
         Move::Convert => {
             let from = smaller(w);
-            let v = width::sign_extended(from, w, m.part(from, EAX));
+            let v = from.sign_extended(w, m.part(from, EAX));
             m.set_eip(p.next);
             m.set_part(w, EAX, v);
             Ok(())
         }
         Move::Spread => {
-            let v = width::sign_filled(w, m.part(w, EAX));
+            let v = w.sign_filled(m.part(w, EAX));
             m.set_eip(p.next);
             m.set_part(w, EDX, v);
             Ok(())
@@ -133,7 +133,7 @@ pub fn moves(m: &mut Machine, op: Move, p: &Plan, a: u32, memory: &mut Memory) -
             memory,
         ),
         Move::Set(n) => {
-            let v = width::bit(flags::meets(n, m.flags().unpack())) as u32;
+            let v = u32::from(flags::meets(n, m.flags().unpack()));
             given(m, p, a, v, memory)
         }
         Move::Lahf => {

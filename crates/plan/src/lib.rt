@@ -86,7 +86,7 @@ pub fn effective_address(m: &Machine, a: Address) -> u32
     ensures { result ≡ effective_address m.now a }
 {
     let base = address_base(m, a.modrm, a.sib);
-    width::low(Size::Dword, base + a.displacement as u64)
+    Size::Dword.low(base + a.displacement as u64)
 }
 
 // Bytes; else words under 66, and doublewords without.
@@ -116,7 +116,7 @@ pub fn operand_at(place: Place, d: Decoded, w: Size) -> Operand
         Place::Accumulator => Operand::Register(0),
         Place::OpcodeRegister => Operand::Register((d.opcode % 8) as u32),
         Place::Immediate => Operand::Number(d.immediate),
-        Place::SignedImmediate => Operand::Number(width::sign_extended(Size::Byte, w, d.immediate)),
+        Place::SignedImmediate => Operand::Number(Size::Byte.sign_extended(w, d.immediate)),
         Place::Offset => Operand::Memory,
         Place::One => Operand::Number(1),
         Place::Cl => Operand::Register(1),
@@ -176,7 +176,7 @@ pub fn next_of(eip: u32, d: Decoded) -> u32
     ensures { result ≡ next_of eip d }
 {
     let size = (d.length % 0x1_0000_0000) as u64;
-    width::low(Size::Dword, eip as u64 + size)
+    Size::Dword.low(eip as u64 + size)
 }
 
 // The plan, from what the opcode means, its operation and its size.
@@ -206,7 +206,7 @@ fn lead(relative: Option<u32>, next: u32) -> u32
 {
     match relative {
         None => next,
-        Some(displacement) => width::low(Size::Dword, next as u64 + displacement as u64),
+        Some(displacement) => Size::Dword.low(next as u64 + displacement as u64),
     }
 }
 
