@@ -1,12 +1,12 @@
 -- From what the passes give to the answer and the marks left. Assumes nothing.
-use mathlib.Core.Path.{◌≡◌, ap, ◌∙◌}
+use mathlib.Core.Path.{◌≡◌, ap}
 use mathlib.Core.List.{List}
 use Prim.Native.Nat.{ℕ}
 use lib.ListN.{length, replicate}
 use Rattle.blockcheck.specs.Blocks.{Verdict, Sized, cut_at, unknown_at, astray_at, accepted}
 use Rattle.blockcheck.specs.Passes.{finished, Divided, Whole, Sought, Concluded}
 use Rattle.blockcheck.specs.Passes as passes
-use Rattle.std.specs.Prelude.{Option, None, Some, Ok, Err}
+use Rattle.std.specs.Prelude.{None, Some, Ok, Err}
 use Rattle.blockcheck.specs.declared.Refusal.{Refusal}
 use Rattle.blockcheck.proofs.Cuts.{cut_unique}
 use Rattle.blockcheck.proofs.Levels.{coded_long}

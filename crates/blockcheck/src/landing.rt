@@ -8,22 +8,25 @@ use grammar::instruction::Decoded;
 use grammar::reader::read;
 use grammar::relative::relative_of;
 
+/// Where the code lies.
+const CODE: u32 = 0x1_0000;
+
 /// The address that a displacement leads to, from an instruction's offset and length.
 fn leads_to(at: usize, size: usize, displacement: u32) -> u32
     requires { at + size < 2 ^ 63 }
     ensures { result ≡ target_of at size displacement }
 {
-    ((0x1_0000 + at as u64 + size as u64 + u64::from(displacement)) % 0x1_0000_0000) as u32
+    ((CODE as u64 + at as u64 + size as u64 + u64::from(displacement)) % 0x1_0000_0000) as u32
 }
 
 /// Whether a marked start lies at this address.
 fn lands(marks: &[u8], address: u32) -> bool
     ensures { (starts : List ℕ) → Shows marks.now starts → Tells (Lands starts address) result }
 {
-    if address < 0x1_0000 {
+    if address < CODE {
         return false;
     }
-    let at = (address - 0x1_0000) as usize;
+    let at = (address - CODE) as usize;
     if marks.len() <= at {
         return false;
     }

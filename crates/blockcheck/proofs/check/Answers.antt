@@ -19,8 +19,8 @@ sized {code} some most = record { some = omega (arith, eqb-false (length code) 0
 pub returns-then-is_empty : goal.returns-then-is_empty
 returns-then-is_empty c =
     bad_length (λ s. elim c.then-is_empty.branch [
-      then-is_empty-via-then-is_empty w ↦ omega (arith, s.some, eqb-true _ _ (sym c.is_empty.ensures ∙ w.if-is_empty.true))
-    | then-is_empty-via-else-is_empty+then-code-gt65536 w ↦ omega (arith, s.most, w.if-code-gt65536.true)
+      | then-is_empty-via-then-is_empty w ↦ omega (arith, s.some, eqb-true _ _ (sym c.is_empty.ensures ∙ w.if-is_empty.true))
+      | then-is_empty-via-else-is_empty+then-code-gt65536 w ↦ omega (arith, s.most, w.if-code-gt65536.true)
     ])
 
 pub returns-then-marks-code : goal.returns-then-marks-code

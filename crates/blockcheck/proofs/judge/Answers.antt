@@ -2,7 +2,7 @@
 use mathlib.Core.Path.{ap, ◌∙◌}
 use lib.ListN.{replicate}
 use Rattle.std.proofs.lemmas.Result.{err_from_is_err_and}
-use Rattle.blockcheck.proofs.Concluding.{divided_whole, concluded_refused, concluded_astray, concluded_good}
+use Rattle.blockcheck.proofs.Concluding.{concluded_refused, concluded_astray, concluded_good}
 use Rattle.blockcheck.proofs.judge.Goals as goal
 
 pub divide-requires : goal.divide-requires

@@ -8,7 +8,7 @@ use Rattle.blockcheck.proofs.Extents.{was_ok, was_fault, begins, goes, ends, fai
 use Rattle.blockcheck.proofs.Levels.{coded_long}
 use Rattle.grammar.proofs.Answered.{found_standing}
 use Rattle.grammar.specs.Decoding.{decode_of}
-use Rattle.std.specs.Prelude.{Ok, Err}
+use Rattle.std.specs.Prelude.{Ok}
 use Rattle.blockcheck.proofs.dividing.divide.Goals as goal
 
 -- the instruction that decode found
