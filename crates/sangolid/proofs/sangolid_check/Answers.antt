@@ -9,6 +9,12 @@ pub returns-then-answer-ne1 : goal.returns-then-answer-ne1
 unfolding misfit
 returns-then-answer-ne1 c = unfit c.if-answer-ne1.true
 
+pub overflow_cast-answer : goal.overflow_cast-answer
+overflow_cast-answer c = record { fits = rw c.in-Ok.is at (value_fits c.check.ensures) }
+
+pub overflow_cast-answer-in-Err : goal.overflow_cast-answer-in-Err
+overflow_cast-answer-in-Err c = record { fits = rw c.offset.ensures (rw c.in-Err.is at (value_fits c.check.ensures)) }
+
 pub returns-in-Ok : goal.returns-in-Ok
 returns-in-Ok c = checks_judged c.if-answer-ne1.false (rw c.in-Ok.is at c.check.ensures) refl refl
 
