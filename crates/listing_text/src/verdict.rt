@@ -6,7 +6,7 @@ ghost use Rattle.text.specs.Fields.{newline, field};
 ghost use Rattle.listing_text.specs.Listing.{accepted_word, lines_from, body_of, text_of};
 
 use crate::lines::put_lines;
-use blockcheck::Verdict;
+use blockcheck::Refusal;
 use text::{put_bytes, put_field, put_refusal};
 
 // The lines of an accepted block, and the count of its instructions.
@@ -19,21 +19,17 @@ fn put_accepted(code: &[u8], count: usize, out: &mut [u8], at: usize) -> usize
 }
 
 // What follows the header.
-fn put_body(code: &[u8], verdict: Verdict, out: &mut [u8], at: usize) -> usize
+fn put_body(code: &[u8], verdict: Result<usize, Refusal>, out: &mut [u8], at: usize) -> usize
     ensures { Wrote out.old at (body_of code.now (number_of verdict) (value_of verdict)) result out.new }
 {
     match verdict {
-        Verdict::Accepted(count) => put_accepted(code, count, out, at),
-        Verdict::BadLength => put_refusal(out, at, 10, 0),
-        Verdict::BadMarks => put_refusal(out, at, 14, 0),
-        Verdict::CutAt(offset) => put_refusal(out, at, 21, offset),
-        Verdict::UnknownAt(offset) => put_refusal(out, at, 22, offset),
-        Verdict::AstrayAt(offset) => put_refusal(out, at, 23, offset),
+        Ok(count) => put_accepted(code, count, out, at),
+        Err(refusal) => put_refusal(out, at, refusal.number() as usize, refusal.offset()),
     }
 }
 
 // The whole text, from the start of the buffer on.
-pub fn put_text(code: &[u8], verdict: Verdict, out: &mut [u8]) -> usize
+pub fn put_text(code: &[u8], verdict: Result<usize, Refusal>, out: &mut [u8]) -> usize
     ensures { Wrote out.old 0 (text_of code.now (number_of verdict) (value_of verdict)) result out.new }
 {
     let next = put_bytes(out, 0, b"offset\tlength\topcode\n");

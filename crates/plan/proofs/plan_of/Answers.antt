@@ -5,4 +5,4 @@ use Rattle.plan.proofs.plan_of.Goals as goal
 pub returns : goal.returns
 unfolding plan_of
 returns c =
-    simp (c.plan_for.ensures, c.lead-target.ensures, c.next_of.ensures, c.relative_of.ensures, c.size_of-w.ensures, c.operation-operation.ensures, c.sense-s.ensures)
+    simp (c.plan_for.ensures, c.lead-target.ensures, c.next_of.ensures, c.relative_of.ensures, c.size_of.ensures, c.operation-operation.ensures, c.from.ensures, c.sense-s.ensures)

@@ -4,7 +4,7 @@ use native.Mathlib.Omega.{arith}
 use lib.ListN.{length}
 use Rattle.grammar.proofs.Answered.{own_length, found_inside}
 use Rattle.grammar.specs.Decoding.{decode_of}
-use Rattle.std.specs.Prelude.{Ok, Err}
+use Rattle.std.specs.Prelude.{Ok}
 use Rattle.listing_text.proofs.Completing.{none_left, none_cut, none_unknown, goes, ends}
 use Rattle.listing_text.proofs.lines.put_lines.Goals as goal
 
