@@ -1,80 +1,54 @@
-// The form of a line: exactly one record, from colon to checksum.
-ghost use Rattle.std.specs.Prelude.{◌≡◌, suc, ◌<◌, ◌≤◌, length, drop, slice_index};
+//! The form of a line: exactly one record, from colon to checksum.
+ghost use Rattle.std.specs.Prelude.{◌≡◌, drop};
 ghost use Rattle.intel_hex.specs.Reading.{is_pair, pairs_in, is_end, Formed};
 
 use crate::digits::{byte_at, digit};
 
-// What a line is: a record with so many data bytes, or none.
-#[derive(Clone, Copy)]
-pub enum Form {
-    Record(usize),
-    Malformed,
-}
-
-// Whether two digits stand at a place.
-fn is_pair(line: &[u8], i: usize) -> bool
-    requires { suc i < length line.now }
-    ensures { result ≡ is_pair (slice_index line.now i) (slice_index line.now (suc i)) }
+/// Whether two bytes are digits.
+fn is_pair(a: u8, b: u8) -> bool
+    ensures { result ≡ is_pair a b }
 {
-    if digit(line[i]) < 16 {
-        return digit(line[i + 1]) < 16;
-    }
-    false
+    digit(a).is_some() && digit(b).is_some()
 }
 
-// How many pairs of digits follow a line's first byte.
-fn pairs(line: &[u8]) -> usize
-    ensures { result ≡ pairs_in (drop 1 line.now) }
+/// How many pairs of digits a text begins with.
+fn pairs(text: &[u8]) -> usize
+    ensures { result ≡ pairs_in text.now }
 {
     let mut n = 0;
-    let mut i = 1;
-    while i + 1 < line.len() {
-        if !is_pair(line, i) {
+    let mut left = text;
+    while let [a, b, rest @ ..] = left {
+        if !is_pair(*a, *b) {
             return n;
         }
         n += 1;
-        i += 2;
+        left = rest;
     }
     n
 }
 
-// Whether nothing but a line's end stands from a place on: LF or CR LF.
-fn ends_at(line: &[u8], i: usize) -> bool
-    requires { i ≤ length line.now }
-    ensures { result ≡ is_end (drop i line.now) }
+/// Whether a text is nothing but a line's end: LF or CR LF.
+#[tactic(auto, using(crate::proofs::Places::end_none, crate::proofs::Places::end_lf, crate::proofs::Places::end_one, crate::proofs::Places::end_cr_lf, crate::proofs::Places::end_no_cr, crate::proofs::Places::end_no_lf, crate::proofs::Places::end_long))]
+fn is_end(text: &[u8]) -> bool
+    ensures { result ≡ is_end text.now }
 {
-    if line.len() - i == 1 {
-        return line[i] == b'\n';
-    }
-    if line.len() - i != 2 {
-        return false;
-    }
-    if line[i] != b'\r' {
-        return false;
-    }
-    line[i + 1] == b'\n'
+    matches!(text, [b'\n'] | [b'\r', b'\n'])
 }
 
-// The form of a line.
-pub fn form_of(line: &[u8]) -> Form
+/// How many data bytes the record has that a line is, if it is exactly one.
+pub fn form_of(line: &[u8]) -> Option<usize>
     ensures { Formed line.now result }
 {
-    if line.len() == 0 {
-        return Form::Malformed;
+    if line.is_empty() || line[0] != b':' {
+        return None;
     }
-    if line[0] != b':' {
-        return Form::Malformed;
-    }
-    let n = pairs(line);
+    let n = pairs(&line[1..]);
     if n < 5 {
-        return Form::Malformed;
+        return None;
     }
-    let count = byte_at(line, 1) as usize;
-    if n != count + 5 {
-        return Form::Malformed;
+    let count = usize::from(byte_at(line, 1));
+    if n != count + 5 || !is_end(&line[1 + 2 * n..]) {
+        return None;
     }
-    if !ends_at(line, 1 + 2 * n) {
-        return Form::Malformed;
-    }
-    Form::Record(count)
+    Some(count)
 }

@@ -1,13 +1,11 @@
 -- `intel_hex::form::is_pair` meets its contract: the first is a digit, and then the second. Assumes nothing.
-use native.Mathlib.Numerals.{add-one}
-use borrow.Author.Tests.{lt-ltb, le-ltb}
 use Rattle.intel_hex.specs.Reading.{is_pair}
 use Rattle.intel_hex.proofs.form.is_pair.Goals as goal
 
-pub returns-then-digit-lt16 : goal.returns-then-digit-lt16
+pub returns-then-is_some : goal.returns-then-is_some
 unfolding is_pair
-returns-then-digit-lt16 c = rw (c.digit-then-digit-lt16.ensures.0, add-one, ← c.digit.ensures.0, lt-ltb _ _ c.if-digit-lt16.true)
+returns-then-is_some c = rw (c.is_some-then-is_some.ensures, c.digit-then-is_some.ensures, ← c.digit.ensures, ← c.is_some.ensures, c.if-is_some.true)
 
-pub returns : goal.returns
+pub returns-else-is_some : goal.returns-else-is_some
 unfolding is_pair
-returns c = rw (← c.digit.ensures.0, le-ltb _ _ c.if-digit-lt16.false)
+returns-else-is_some c = rw (← c.digit.ensures, ← c.is_some.ensures, c.if-is_some.false)

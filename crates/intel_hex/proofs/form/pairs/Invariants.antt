@@ -1,12 +1,12 @@
 -- `intel_hex::form::pairs` meets its contract: those counted and those still to come are all. Assumes nothing.
 use mathlib.Core.Path.{◌≡◌}
-use Prim.Native.Nat.{◌+◌, ◌-◌, ◌<◌, ◌≤◌}
-use lib.ListN.{length, drop}
+use Prim.Native.Nat.{◌+◌, ◌≤◌}
+use lib.ListN.{length}
 use Rattle.intel_hex.specs.Reading.{pairs_in}
 use Rattle.intel_hex.proofs.form.pairs.Given as goal
 
-abbrev pub invariant-loop-i : goal.invariant-loop-i
-invariant-loop-i l = (l.n < l.i) × (l.i ≤ length l.line + 1) × (l.n + pairs_in (drop l.i l.line) ≡ pairs_in (drop 1 l.line))
+abbrev pub invariant-loop-left : goal.invariant-loop-left
+invariant-loop-left l = (l.n + length l.left ≤ length l.text) × (l.n + pairs_in l.left ≡ pairs_in l.text)
 
-abbrev pub decreases-loop-i : goal.decreases-loop-i
-decreases-loop-i l = length l.line + 1 - l.i
+abbrev pub decreases-loop-left : goal.decreases-loop-left
+decreases-loop-left l = length l.left
