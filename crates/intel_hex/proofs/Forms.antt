@@ -7,8 +7,7 @@ use native.Mathlib.Omega.{arith}
 use lib.ListN.{length, get_or, take, drop, length-append}
 use lib.Seq.{take_at, get_or_at}
 use Rattle.intel_hex.specs.Records.{Spells, Record, in_order, Reads, reads, colon}
-use Rattle.intel_hex.specs.Reading.{pairs_in, is_end, byte_at, bytes_at, record_in, Formed, no_record}
-use Rattle.std.specs.Prelude.{None}
+use Rattle.intel_hex.specs.Reading.{pairs_in, is_end, byte_at, bytes_at, record_in}
 use Rattle.intel_hex.proofs.Places.{pairs_long}
 use Rattle.intel_hex.proofs.Spelling.{end_told, end_is, bytes_shift, bytes_length, bytes_more, spells_pairs, spells_end, spells_bytes, pairs_spell}
 
@@ -108,7 +107,3 @@ record_long line count is =
     let pairs = (reads_shown is).pairs in
     let long = pairs_long line (length (bytes_at line 9 count) + 5) (sym pairs) (omega arith) in
     omega (arith, bytes_length line 9 count)
-
--- a line told none is none
-pub formed_none : {line : List ℕ} → Formed line None → (r : Record) → Reads line r → ⊥
-formed_none (no_record none) = none

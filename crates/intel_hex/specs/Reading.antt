@@ -55,10 +55,14 @@ record_in line count =
       sum = byte_at line (9 + 2 * count);
     }
 
--- a line is a record with so many data bytes, or none
-pub data Formed (line : List ℕ) : Option ℕ → Type 0 where
-  a_record : {count : ℕ} → count ≡ byte_at line 1 → Reads line (record_in line count) → Formed line (Some count)
-  no_record : ((r : Record) → Reads line r → ⊥) → Formed line None
+-- a line is the record with so many data bytes
+pub record IsRecord (line : List ℕ) (count : ℕ) : Type 0 where
+  pub counted : count ≡ byte_at line 1
+  pub reads : Reads line (record_in line count)
+
+-- a line is no record
+abbrev pub IsNoRecord : List ℕ → Type 0
+IsNoRecord line = (r : Record) → Reads line r → ⊥
 
 -- a line is the record with so many data bytes, and its bytes add up to 0
 pub record Summed (line : List ℕ) (count : ℕ) : Type 0 where

@@ -1,10 +1,10 @@
 //! The image of the code while a file is read.
-ghost use Rattle.std.specs.Prelude.{◌≡◌, List, ℕ, ◌+◌, ◌*◌, ◌≤◌, length};
+ghost use Rattle.std.specs.Prelude.{◌≡◌, List, ℕ, ◌+◌, ◌≤◌, length};
 ghost use Rattle.intel_hex.specs.Files.{given_from, code_base};
 ghost use Rattle.intel_hex.specs.Reading.{bytes_at, Shows, Lays, Copied};
 
-use crate::digits::byte_at;
 use crate::fault::Fault;
+use crate::line::Line;
 
 /// What fills the code where no byte is given.
 const GAP: u8 = 0x90;
@@ -16,14 +16,13 @@ pub struct Image {
 }
 
 impl Image {
-    /// Lays the data bytes of a line from an offset on. Refused where one of their addresses was given before.
-    pub fn lay(&mut self, line: &[u8], count: usize, from: usize) -> Result<(), Fault>
-        requires count_in_bounds { 9 + 2 * count ≤ length line.now }
-        requires count_bound { from + count ≤ 65536 }
-        ensures { (bytes : List (ℕ × ℕ)) → Shows bytes self.old.cells → Lays (given_from (code_base + from) (bytes_at line.now 9 count)) bytes result self.new.cells }
+    /// Lays the data bytes of a record from an offset on. Refused where one of their addresses was given before.
+    pub fn lay(&mut self, line: &Line, from: usize) -> Result<(), Fault>
+        requires { from + line.now.count ≤ 65536 }
+        ensures { (bytes : List (ℕ × ℕ)) → Shows bytes self.old.cells → Lays (given_from (code_base + from) (bytes_at line.now.bytes.now 9 line.now.count)) bytes result self.new.cells }
     {
-        for k in 0..count {
-            let byte = byte_at(line, 9 + 2 * k);
+        for k in 0..line.count {
+            let byte = line.data(k);
             let given = self.cells[from + k];
             if given.is_some() {
                 return Err(Fault::GivenBefore);

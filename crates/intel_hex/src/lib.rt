@@ -3,9 +3,9 @@
 
 mod digits;
 mod fault;
-mod form;
 mod image;
 mod judging;
+mod line;
 
 ghost use Rattle.std.specs.Prelude.{◌≡◌, ◌≤◌, length, replicate, None};
 ghost use Rattle.intel_hex.specs.Files.{Outcome, number_of, value_of};

@@ -1,6 +1,6 @@
--- `intel_hex::form::is_pair` meets its contract: the first is a digit, and then the second. Assumes nothing.
+-- `intel_hex::line::is_pair` meets its contract: the first is a digit, and then the second. Assumes nothing.
 use Rattle.intel_hex.specs.Reading.{is_pair}
-use Rattle.intel_hex.proofs.form.is_pair.Goals as goal
+use Rattle.intel_hex.proofs.line.is_pair.Goals as goal
 
 pub returns-then-is_some : goal.returns-then-is_some
 unfolding is_pair

@@ -1,4 +1,4 @@
--- `intel_hex::form::pairs` meets its contract: those counted and those still to come are all. Assumes nothing.
+-- `intel_hex::line::pairs` meets its contract: those counted and those still to come are all. Assumes nothing.
 use mathlib.Core.Path.{◌≡◌, sym, ◌∙◌}
 use mathlib.Core.List.{List}
 use Prim.Native.Nat.{ℕ, suc, ◌+◌, ◌-◌, ◌≤◌}
@@ -7,7 +7,7 @@ use lib.ListN.{length, take, drop, length-drop}
 use Rattle.std.proofs.lemmas.List.{take_rest}
 use Rattle.intel_hex.specs.Reading.{pairs_in}
 use Rattle.intel_hex.proofs.Places.{pairs_few, pairs_go, pairs_stop}
-use Rattle.intel_hex.proofs.form.pairs.Goals as goal
+use Rattle.intel_hex.proofs.line.pairs.Goals as goal
 
 -- a pair more is counted
 counted : (text left : List ℕ) (n : ℕ) → 2 ≤ length left → n + length left ≤ length text → n + pairs_in left ≡ pairs_in text
