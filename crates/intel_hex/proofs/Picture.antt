@@ -3,14 +3,14 @@ use mathlib.Core.Path.{◌≡◌, refl, ap, sym, ◌∙◌}
 use mathlib.Core.Logic.{◌⊎◌, inl, inr, ⊎_elim}
 use mathlib.Core.List.Memᴰ
 use mathlib.Core.List.{List, [], ◌∷◌, ◌++◌, Memᴰ}
-use mathlib.Core.Bool.{true, false, false≢true}
-use Prim.Native.Nat.{ℕ, zero, suc, ◌+◌, ◌-◌, ◌*◌, ◌%◌, ◌<◌, ◌≤◌}
+use mathlib.Core.Bool.{false, false≢true}
+use Prim.Native.Nat.{ℕ, zero, suc, ◌+◌, ◌-◌, ◌*◌, ◌<◌}
 use native.Mathlib.Decide.{ℕ_discrete}
 use native.Mathlib.Numerals.{add-one}
 use native.Mathlib.Omega.{arith}
 use lib.ListN.{length, get_or, set, replicate, length-set, length-replicate}
 use lib.Seq.{get_or-set_same, get_or-set_other}
-use Rattle.std.specs.Prelude.{Option, None, Some, is_some, Result, Ok, Err}
+use Rattle.std.specs.Prelude.{Option, None, Some, is_some, Ok, Err}
 use Rattle.intel_hex.specs.Files.{given_from, code_base, Clash}
 use Rattle.intel_hex.specs.Reading.{byte_at, bytes_at, Shows, Lays, laid, clash, filled, Copied}
 use Rattle.intel_hex.specs.declared.fault.Fault.{Fault as Refusal}
@@ -81,7 +81,7 @@ module _ {old all : List (ℕ × ℕ)} {image : List (Option ℕ)} (shows : Show
       record {
         long = length-set image i (Some b) ∙ long;
         from = λ a c m. ⊎_elim (λ (e, f). omega arith) (λ o. shows.from a c o) (split a c m);
-          cell = λ a c m. ⊎_elim (λ (e, f). new a c e f) (λ o. get_or-set_other image i (a - code_base) (Some b) None (elsewhere a c o) ∙ shows.cell a c o) (split a c m);
+        cell = λ a c m. ⊎_elim (λ (e, f). new a c e f) (λ o. get_or-set_other image i (a - code_base) (Some b) None (elsewhere a c o) ∙ shows.cell a c o) (split a c m);
         blank = λ j none. blank j none (ℕ_discrete j i);
       }
     where

@@ -51,7 +51,8 @@ impl fmt::Display for Fault {
         f.write_str(match self {
             Fault::Malformed => "this line is malformed",
             Fault::WrongSum => "this line's sum is wrong",
-            Fault::OtherType => "this line's type is another one, or 01 or 04 without just 0 or 2 data bytes",
+            Fault::OtherType =>
+                "this line's type is another one, or 01 or 04 without just 0 or 2 data bytes",
             Fault::Outside => "this line has a byte outside the code area or above 0001FFFFh",
             Fault::GivenBefore => "this line has an address that was given before",
             Fault::NoEnd => "there is no end record",

@@ -11,10 +11,9 @@ ghost use Rattle.std.specs.Prelude.{◌≡◌, ◌≤◌, length, replicate, Non
 ghost use Rattle.intel_hex.specs.Files.{Outcome, number_of, value_of};
 ghost use Rattle.intel_hex.specs.Reading.{Found, Concluded};
 
+pub use crate::fault::{Fault, Refused};
 use crate::image::Image;
 use crate::judging::{File, judge_line};
-
-pub use crate::fault::{Fault, Refused};
 
 /// Judges the lines of a text one after another, on a blank image.
 fn judge(text: &[u8], size: usize, image: &mut Image) -> Result<File, Refused>

@@ -2,7 +2,7 @@
 use mathlib.Core.Path.{◌≡◌, ap, sym, ◌∙◌}
 use Prim.Native.Nat.{ℕ, ◌+◌, ◌-◌}
 use native.Mathlib.Omega.{arith}
-use Rattle.std.specs.Prelude.{Option, Some}
+use Rattle.std.specs.Prelude.{Some}
 use Rattle.intel_hex.proofs.Values.{below_figures, of_figure, past_figures, of_capital, past_capitals, of_small, past_small}
 use Rattle.intel_hex.proofs.digits.digit.Goals as goal
 

@@ -1,7 +1,6 @@
 -- `intel_hex::judging::judge_record` meets its contract: by the sum, and then by the type. Assumes nothing.
 use mathlib.Core.Path.{sym, ◌∙◌}
 use native.Mathlib.Omega.{arith}
-use borrow.Author.Rules.{rules}
 use Rattle.intel_hex.proofs.Adding.{added, not_added}
 use Rattle.intel_hex.proofs.Judgements.{judged_sum, judged_type, judged_end, judged_upper}
 use Rattle.intel_hex.specs.Reading.{record_in}

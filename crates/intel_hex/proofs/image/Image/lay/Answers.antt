@@ -1,5 +1,5 @@
 -- `intel_hex::image::Image::lay` meets its contract: the data bytes before `k` are laid. Assumes nothing.
-use mathlib.Core.Path.{◌≡◌, ap, sym, ◌∙◌}
+use mathlib.Core.Path.{ap, sym, ◌∙◌}
 use mathlib.Core.Bool.{false≢true}
 use native.Mathlib.Omega.{arith}
 use Rattle.std.specs.Prelude.{is_some}

@@ -1,7 +1,7 @@
 -- `intel_hex::line::Line::read` meets its contract: a line that fails a test shows no record, and one that passes all is one. Assumes nothing.
 use mathlib.Core.Path.{◌≡◌, refl, sym, ◌∙◌}
-use mathlib.Core.Bool.{false≢true, true, false}
-use Prim.Native.Nat.{ℕ, ◌+◌, ◌*◌, ◌<◌, ◌≤◌}
+use mathlib.Core.Bool.{false≢true, true}
+use Prim.Native.Nat.{◌+◌, ◌*◌, ◌<◌, ◌≤◌}
 use native.Mathlib.Nat.{pos_of_ne-zero}
 use native.Mathlib.Omega.{arith}
 use borrow.Author.Rules.{rules}
@@ -17,9 +17,9 @@ use Rattle.intel_hex.proofs.line.Line.read.Goals as goal
 pub returns-then-is_empty : goal.returns-then-is_empty
 returns-then-is_empty c =
     elim c.then-is_empty.branch [
-      then-is_empty-via-then-is_empty w ↦
+      | then-is_empty-via-then-is_empty w ↦
           (λ r is. let s = reads_shown is in let none = eqb-true _ _ (sym c.is_empty.ensures ∙ w.if-is_empty.true) in omega (arith, s.some, none))
-    | then-is_empty-via-else-is_empty+then-bytes-ne58 w ↦ (λ r is. w.if-bytes-ne58.true (reads_shown is).first)
+      | then-is_empty-via-else-is_empty+then-bytes-ne58 w ↦ (λ r is. w.if-bytes-ne58.true (reads_shown is).first)
     ]
 
 pub returns-then-n-lt5 : goal.returns-then-n-lt5
@@ -48,9 +48,9 @@ pub returns-then-n-count : goal.returns-then-n-count
 returns-then-n-count c =
     let counted : c.pairs-n.result ≡ pairs_in (drop 1 c.args.bytes.now) = rw (take_rest c.args.bytes.now 1) at c.pairs-n.ensures in
     elim c.then-n-count.branch [
-      then-n-count-via-then-n-count w ↦
+      | then-n-count-via-then-n-count w ↦
           (λ r is. let s = reads_shown is in w.if-n-count.true (omega (arith, s.pairs, s.count, counted, c.from-count.ensures, c.byte_at.ensures)))
-    | then-n-count-via-else-n-count+then-not-is_end w ↦
+      | then-n-count-via-else-n-count+then-not-is_end w ↦
           (λ r is.
           false≢true (sym (sym (rw (take_rest c.args.bytes.now (1 + 2 * c.pairs-n.result)) at w.is_end.ensures) ∙ w.if-not-is_end.true) ∙ reads_end c.pairs-n.result is counted))
     ]
