@@ -58,12 +58,7 @@ module _ (file : File) (image : List (Option ℕ)) (area : List ℕ) where
   unfolding Concluded
   concluded_code ended some copied = λ text records stand known. read stand (known.ends ended) (known_holds known some copied)
 
--- after lines without a fault the code's length is in its bounds
-pub found_fits : {text : List ℕ} {image : List (Option ℕ)} {size : ℕ} {file : File} → Found text size (Ok file) image
-    → (file.top ≤ 65536) × (file.top ≤ size)
-found_fits (whole stand known) = (known.block, known.fits)
-
--- and what is concluded is the outcome
+-- after lines without a fault, what is concluded is the outcome
 pub found_concluded : {text area after : List ℕ} {image : List (Option ℕ)} {file : File} (answer : Result ℕ Refused) → Found text (length area) (Ok file) image
     → Concluded file image area answer after → Outcome text area (number_of answer) (value_of answer) after
 unfolding Concluded

@@ -99,11 +99,3 @@ pub reads_end : {line : List ℕ} {r : Record} (n : ℕ) → Reads line r → n 
 reads_end {line} n is pairs =
     let s = reads_shown is in
     rw (pairs ∙ s.pairs) s.ends
-
--- the line of a record with so many data bytes is so long
-pub record_long : (line : List ℕ) (count : ℕ) → Reads line (record_in line count) → 11 + 2 * count ≤ length line
-unfolding record_in
-record_long line count is =
-    let pairs = (reads_shown is).pairs in
-    let long = pairs_long line (length (bytes_at line 9 count) + 5) (sym pairs) (omega arith) in
-    omega (arith, bytes_length line 9 count)

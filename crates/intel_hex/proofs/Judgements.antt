@@ -19,6 +19,16 @@ use Rattle.intel_hex.proofs.Giving.{given_back, given_forth, given_data, given_o
 use Rattle.intel_hex.proofs.Faults.{first_end, first_malformed, first_sum, first_type, first_outside, first_given, no_fault}
 use Rattle.intel_hex.proofs.Knowing.{known_quiet, known_end, known_data}
 
+-- what a result holds, and else another
+abbrev pub value_or : {A E : Type 0} → A → Result A E → A
+value_or other (Ok x) = x
+value_or other (Err e) = other
+
+-- the error of a result, and else another
+abbrev pub error_or : {A E : Type 0} → E → Result A E → E
+error_or other (Ok x) = other
+error_or other (Err e) = e
+
 -- a line after an end record
 pub judged_after_end : (size : ℕ) (file : File) (image : List (Option ℕ)) (line : List ℕ) → file.ended ≡ true → JudgesFrom size file image line (Err Refusal.AfterEnd) image
 unfolding JudgesFrom

@@ -11,6 +11,7 @@ use Rattle.intel_hex.specs.Records.{Record, Reads}
 use Rattle.intel_hex.specs.Files.{Fault, Has, Stand, none, next}
 use Rattle.intel_hex.specs.Reading.{Known, Judges, sound, faulty, JudgesFrom, Found, whole, at_line}
 use Rattle.intel_hex.specs.declared.fault.Fault.{Fault as Refusal}
+use Rattle.intel_hex.specs.declared.fault.Refused.{Refused}
 use Rattle.intel_hex.specs.declared.judging.File.{File}
 use Rattle.intel_hex.proofs.Knowing.{known_none}
 use Rattle.intel_hex.proofs.Picture.{blank_shows}
@@ -72,15 +73,15 @@ module _ {text : List ℕ} {size : ℕ} {file : File} {image : List (Option ℕ)
           }
 
   -- it has one
-  pub passes_stop : {fault : Refusal} {next_image : List (Option ℕ)} → JudgesFrom size file image line (Err fault) next_image
-      → Found text size (Err (record { fault = fault; line = count + 1 })) next_image
+  pub passes_stop : (why : Refused) {next_image : List (Option ℕ)} → why.line ≡ count + 1 → JudgesFrom size file image line (Err why.fault) next_image
+      → Found text size (Err why) next_image
   unfolding JudgesFrom
-  passes_stop {fault} {next_image} judges = go (judges so.records so.known)
+  passes_stop why {next_image} place judges = go (judges so.records so.known)
     where
-      here : count + 1 ≡ suc (length so.earlier)
+      here : why.line ≡ suc (length so.earlier)
       here = let so_many = so.count in omega arith
 
-      go : {f : Refusal} → Judges size so.records line (Err f) next_image → Found text size (Err (record { fault = f; line = count + 1 })) next_image
+      go : {fault : Refusal} → Judges size so.records line (Err fault) next_image → Found text size (Err (record { fault = fault; line = why.line })) next_image
       go (faulty bad) = rw here (at_line so.earlier line (lines_of after) lines_here so.stand bad)
 
 -- all lines stand

@@ -177,18 +177,3 @@ module _ {line : List ℕ} {from k : ℕ} {bytes : List (ℕ × ℕ)} {image : L
   -- all are laid
   pub laying_all : (count : ℕ) → k ≡ count → Lays (given_from (code_base + from) (bytes_at line 9 count)) bytes (Ok tt) image
   laying_all count e = rw (← e) (laid so.fresh so.shows)
-
--- a byte more is copied
-pub copied_more : {image : List (Option ℕ)} {area after : List ℕ} {i : ℕ} → Copied image area i after → i < length area
-    → Copied image area (i + 1) (set after i (filled (get_or image i None)))
-copied_more {image} {area} {after} {i} so h =
-    let long = so.long in
-    record {
-      long = length-set after i (filled (get_or image i None)) ∙ long;
-      below = λ j less. below j less (ℕ_discrete j i);
-      beyond = λ j more. get_or-set_other after i j (filled (get_or image i None)) 0 (λ e. omega arith) ∙ so.beyond j (omega arith);
-    }
-  where
-    below : (j : ℕ) → j < i + 1 → Dec (j ≡ i) → get_or (set after i (filled (get_or image i None))) j 0 ≡ filled (get_or image j None)
-    below j less (yes e) = let long = so.long in rw e (get_or-set_same after i (filled (get_or image i None)) 0 (omega arith))
-    below j less (no other) = get_or-set_other after i j (filled (get_or image i None)) 0 other ∙ so.below j (omega arith)

@@ -118,8 +118,6 @@ pub fn judge_line(bytes: &[u8], file: File, size: usize, image: &mut Image) -> R
     if file.ended {
         return Err(Fault::AfterEnd);
     }
-    match Line::read(bytes) {
-        Some(line) => judge_record(&line, file, size, image),
-        None => Err(Fault::Malformed),
-    }
+    let line = Line::read(bytes).ok_or(Fault::Malformed)?;
+    judge_record(&line, file, size, image)
 }

@@ -25,16 +25,9 @@ fn judge(text: &[u8], size: usize, image: &mut Image) -> Result<File, Refused>
         upper: 0,
         top: 0,
     };
-    for (before, line) in text.split_inclusive(|&b| b == b'\n').enumerate() {
-        match judge_line(line, file, size, image) {
-            Ok(after) => file = after,
-            Err(fault) => {
-                return Err(Refused {
-                    fault,
-                    line: before + 1,
-                });
-            }
-        }
+    for (before, bytes) in text.split_inclusive(|&b| b == b'\n').enumerate() {
+        let line = before + 1;
+        file = judge_line(bytes, file, size, image).map_err(|fault| Refused { fault, line })?;
     }
     Ok(file)
 }
