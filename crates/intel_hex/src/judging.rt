@@ -6,6 +6,12 @@ use crate::fault::Fault;
 use crate::image::Image;
 use crate::line::Line;
 
+/// Code offset 0.
+const CODE: usize = 0x0001_0000;
+
+/// The most bytes of code.
+const MOST: usize = 65536;
+
 /// What is known after some lines: whether an end record was among them, the upper half, the code's length so far.
 #[derive(Clone, Copy)]
 pub struct File {
@@ -55,13 +61,13 @@ fn judge_data(line: &Line, file: File, size: usize, image: &mut Image) -> Result
     if line.count == 0 {
         return Ok(file);
     }
-    let start = file.upper * 0x1_0000 + line.offset();
-    if start < 0x1_0000 {
+    let start = file.upper * 65536 + line.offset();
+    if start < CODE {
         return Err(Fault::Outside);
     }
-    let from = start - 0x1_0000;
+    let from = start - CODE;
     let end = from + line.count;
-    if end > 0x1_0000 {
+    if end > MOST {
         return Err(Fault::Outside);
     }
     if end > size {
