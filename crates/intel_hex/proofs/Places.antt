@@ -87,6 +87,9 @@ end_long (a ∷ []) h = absurd (omega arith)
 end_long (a ∷ b ∷ []) h = absurd (omega arith)
 end_long (a ∷ b ∷ d ∷ text) h = refl
 
+-- all these
+pub ruleset line_ends = (end_none, end_lf, end_one, end_cr_lf, end_no_cr, end_no_lf, end_long)
+
 -- a line with pairs of digits behind its first byte is so long
 pub pairs_long : (line : List ℕ) (n : ℕ) → n ≡ pairs_in (drop 1 line) → 0 < n → 1 + 2 * n ≤ length line
 pairs_long line n e some = omega (arith, pairs_within (drop 1 line), length-drop 1 line)

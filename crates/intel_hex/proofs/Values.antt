@@ -10,36 +10,18 @@ use Rattle.text.proofs.Tests.{both_hold}
 use Rattle.intel_hex.specs.Records.{Digit, figure, capital, small}
 use Rattle.intel_hex.specs.Reading.{digit_of, is_pair, worth}
 
-pub below_figures : (c : ℕ) → c < 48 → digit_of c ≡ None
-unfolding digit_of
-below_figures c h = rw (lt-leb 48 c h, lt-leb 65 c (omega arith), lt-leb 97 c (omega arith))
-
-pub of_figure : (c : ℕ) → 48 ≤ c → c ≤ 57 → digit_of c ≡ Some (c - 48)
+of_figure : (c : ℕ) → 48 ≤ c → c ≤ 57 → digit_of c ≡ Some (c - 48)
 unfolding digit_of
 of_figure c h g = rw (le-leb 48 c h, le-leb c 57 g)
 
-pub past_figures : (c : ℕ) → 57 < c → c < 65 → digit_of c ≡ None
-unfolding digit_of
-past_figures c h g = rw (le-leb 48 c (omega arith), lt-leb c 57 h, lt-leb 65 c g, lt-leb 97 c (omega arith))
-
-pub of_capital : (c : ℕ) → 65 ≤ c → c ≤ 70 → digit_of c ≡ Some (c - 55)
+of_capital : (c : ℕ) → 65 ≤ c → c ≤ 70 → digit_of c ≡ Some (c - 55)
 unfolding digit_of
 of_capital c h g = rw (le-leb 48 c (omega arith), lt-leb c 57 (omega arith), le-leb 65 c h, le-leb c 70 g)
 
-pub past_capitals : (c : ℕ) → 70 < c → c < 97 → digit_of c ≡ None
-unfolding digit_of
-past_capitals c h g =
-    rw (le-leb 48 c (omega arith), lt-leb c 57 (omega arith), le-leb 65 c (omega arith), lt-leb c 70 h, lt-leb 97 c g)
-
-pub of_small : (c : ℕ) → 97 ≤ c → c ≤ 102 → digit_of c ≡ Some (c - 87)
+of_small : (c : ℕ) → 97 ≤ c → c ≤ 102 → digit_of c ≡ Some (c - 87)
 unfolding digit_of
 of_small c h g =
     rw (le-leb 48 c (omega arith), lt-leb c 57 (omega arith), le-leb 65 c (omega arith), lt-leb c 70 (omega arith), le-leb 97 c h, le-leb c 102 g)
-
-pub past_small : (c : ℕ) → 102 < c → digit_of c ≡ None
-unfolding digit_of
-past_small c h =
-    rw (le-leb 48 c (omega arith), lt-leb c 57 (omega arith), le-leb 65 c (omega arith), lt-leb c 70 (omega arith), le-leb 97 c (omega arith), lt-leb c 102 h)
 
 -- a digit's value
 digit_value : {c d : ℕ} → Digit c d → digit_of c ≡ Some d

@@ -3,6 +3,7 @@ ghost use Rattle.std.specs.Prelude.{◌≡◌, suc, ◌<◌, length};
 ghost use Rattle.intel_hex.specs.Reading.{digit_of, worth, byte_at};
 
 /// What a hex digit stands for.
+#[tactic(auto, unfolding(crate::specs::Reading::digit_of))]
 pub fn digit(byte: u8) -> Option<u8>
     ensures { result ≡ digit_of byte }
 {
@@ -15,6 +16,7 @@ pub fn digit(byte: u8) -> Option<u8>
 }
 
 /// What a byte counts in a pair of digits: less than 16, and 0 where it is none.
+#[tactic(auto, using(crate::proofs::Values::worth_below), unfolding(crate::specs::Reading::worth))]
 fn worth(byte: u8) -> u8
     ensures { (result ≡ worth byte) × (result < 16) }
 {
@@ -22,6 +24,7 @@ fn worth(byte: u8) -> u8
 }
 
 /// The byte that the two digits at a place stand for.
+#[tactic(auto, unfolding(crate::specs::Reading::byte_at))]
 pub fn byte_at(line: &[u8], i: usize) -> u8
     requires { suc i < length line.now }
     ensures { result ≡ byte_at line.now i }

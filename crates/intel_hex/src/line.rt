@@ -6,6 +6,7 @@ ghost use Rattle.intel_hex.specs.Reading.{is_pair, pairs_in, is_end, byte_at, by
 use crate::digits::{byte_at, digit};
 
 /// Whether two bytes are digits.
+#[tactic(auto, unfolding(crate::specs::Reading::is_pair))]
 fn is_pair(a: u8, b: u8) -> bool
     ensures { result ≡ is_pair a b }
 {
@@ -29,7 +30,7 @@ fn pairs(text: &[u8]) -> usize
 }
 
 /// Whether a text is nothing but a line's end: LF or CR LF.
-#[tactic(auto, using(crate::proofs::Places::end_none, crate::proofs::Places::end_lf, crate::proofs::Places::end_one, crate::proofs::Places::end_cr_lf, crate::proofs::Places::end_no_cr, crate::proofs::Places::end_no_lf, crate::proofs::Places::end_long))]
+#[tactic(auto, using(crate::proofs::Places::line_ends))]
 fn is_end(text: &[u8]) -> bool
     ensures { result ≡ is_end text.now }
 {
