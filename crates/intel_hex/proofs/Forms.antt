@@ -2,13 +2,12 @@
 use mathlib.Core.Path.{◌≡◌, refl, ap, sym, ◌∙◌, subst}
 use mathlib.Core.Bool.{true}
 use mathlib.Core.List.{List, [], ◌∷◌, ◌++◌}
-use Prim.Native.Nat.{ℕ, suc, ◌+◌, ◌*◌, ◌<◌, ◌≤◌}
+use Prim.Native.Nat.{ℕ, suc, ◌+◌, ◌*◌, ◌<◌}
 use native.Mathlib.Omega.{arith}
 use lib.ListN.{length, get_or, take, drop, length-append}
 use lib.Seq.{take_at, get_or_at}
 use Rattle.intel_hex.specs.Records.{Spells, Record, in_order, Reads, reads, colon}
 use Rattle.intel_hex.specs.Reading.{pairs_in, is_end, byte_at, bytes_at, record_in}
-use Rattle.intel_hex.proofs.Places.{pairs_long}
 use Rattle.intel_hex.proofs.Spelling.{end_told, end_is, bytes_shift, bytes_length, bytes_more, spells_pairs, spells_end, spells_bytes, pairs_spell}
 
 -- the same parts make the same record

@@ -12,7 +12,7 @@ use lib.ListN.{length, get_or, set, replicate, length-set, length-replicate}
 use lib.Seq.{get_or-set_same, get_or-set_other}
 use Rattle.std.specs.Prelude.{Option, None, Some, is_some, Ok, Err}
 use Rattle.intel_hex.specs.Files.{given_from, code_base, Clash}
-use Rattle.intel_hex.specs.Reading.{byte_at, bytes_at, Shows, Lays, laid, clash, filled, Copied}
+use Rattle.intel_hex.specs.Reading.{byte_at, bytes_at, Shows, Lays, laid, clash}
 use Rattle.intel_hex.specs.declared.fault.Fault.{Fault as Refusal}
 use Rattle.intel_hex.proofs.Giving.{given_or_not, given_back, given_forth}
 use Rattle.intel_hex.proofs.Spelling.{bytes_more, bytes_length}

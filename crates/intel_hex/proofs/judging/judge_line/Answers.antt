@@ -4,7 +4,7 @@ use mathlib.Core.Bool.{false, false≢true}
 use mathlib.Core.List.{List}
 use Prim.Native.Nat.{ℕ}
 use borrow.Author.Rules.{rules}
-use Rattle.std.specs.Prelude.{Option, None, Some, MatchOption, ok_or, Result, Ok, Err, is_ok}
+use Rattle.std.specs.Prelude.{Option, None, Some, MatchOption, ok_or, Err, is_ok}
 use Rattle.intel_hex.specs.Reading.{IsNoRecord, JudgesFrom}
 use Rattle.intel_hex.specs.declared.fault.Fault.{Fault as Refusal}
 use Rattle.intel_hex.specs.declared.judging.File.{File}
