@@ -5,7 +5,6 @@ ghost use Rattle.std.specs.Prelude.{◌≤◌, length};
 ghost use Rattle.text.specs.Written.{Wrote};
 ghost use Rattle.unhex_text.specs.Unhexing.{code_line, longest, Unhexed};
 
-use intel_hex::{number_of, value_of};
 use std::io::Read;
 use streams::read_full;
 use text::{put_bytes, put_field, put_refusal};
@@ -33,18 +32,20 @@ pub fn unhex(text: &[u8], code: &mut [u8], line: &mut [u8]) -> Ends
         let end = put_bytes(line, 0, b"refused\tlonger than 1048576 bytes\n");
         return Ends { code: 0, line: end };
     }
-    let answer = intel_hex::read(text, code);
-    let number = number_of(answer) as usize;
-    let value = value_of(answer);
-    if number == 0 {
-        let end = put_code(line, value);
-        return Ends {
-            code: value,
-            line: end,
-        };
+    match intel_hex::read(text, code) {
+        Ok(size) => {
+            let end = put_code(line, size);
+            Ends {
+                code: size,
+                line: end,
+            }
+        }
+        Err(refused) => {
+            let number = refused.fault.number() as usize;
+            let end = put_refusal(line, 0, number, refused.line);
+            Ends { code: 0, line: end }
+        }
     }
-    let end = put_refusal(line, 0, number, value);
-    Ends { code: 0, line: end }
 }
 
 // Writes the answer, by way of a buffer in which no line is cut: its line alone to `out`, or else the code there, or the line to `err`.
