@@ -1,5 +1,6 @@
 -- The finding of a case: the first field in which it comes out otherwise than its line says. Assumes nothing.
 use Rattle.std.specs.Prelude.{◌≡◌, ℕ, suc, Bool, true, false, List, [], ◌∷◌, ◌++◌, map, ◌==◌, slice_index, if◌then◌else◌, Result, Ok, Err}
+use denote.Ref.{Bor, MutBor}
 use Rattle.run.specs.Steps.{fixed_to}
 use Rattle.sangolid.specs.Interface.{Call, call_of, Checks, Unhexes}
 use Rattle.vector_text.specs.Hex.{bytes_of, is_held}
@@ -94,6 +95,21 @@ pub data CheckFinds (line code marks : List ℕ) : Finding → Type 0 where
 pub data HexFinds (line text code : List ℕ) : Finding → Type 0 where
   unhexed : {number value : ℕ} {after : List ℕ} → Unhexes text code (0 ∷ []) number after (value ∷ [])
       → HexFinds line text code (first_other line (answer_told number value after))
+
+-- the finding of a call over code and an area, with room for an answer of one word; `gives` says what the call may give, for private functions on the way
+abbrev pub CallFinds : (Bor (List ℕ) → MutBor (List ℕ) → MutBor (List ℕ) → ℕ → MutBor (List ℕ) → MutBor (List ℕ) → Type 0) → List ℕ → List ℕ → List ℕ → Finding → Type 0
+CallFinds gives line code area r =
+    (c : Bor (List ℕ))
+    × (a : MutBor (List ℕ))
+    × (room : MutBor (List ℕ))
+    × (number : ℕ)
+    × (after : MutBor (List ℕ))
+    × (answer : MutBor (List ℕ))
+    × gives c a room number after answer
+    × (c.now ≡ code)
+    × (a.now ≡ area)
+    × (room.now ≡ 0 ∷ [])
+    × (r ≡ first_other line (answer_told number (slice_index answer.now 0) after.now))
 
 -- the finding of a case of a kind
 unfoldable pub KindFinds : Kind → List ℕ → List ℕ → List ℕ → Finding → Type 0

@@ -2,7 +2,7 @@
 
 ghost use Rattle.std.specs.Prelude.{◌≡◌, ◌+◌, ◌<◌, ◌≤◌, [], ◌∷◌, ◌++◌, length, take, drop, true, false, IfOk, IfErr};
 ghost use Rattle.vector_run.specs.Cases.{number_of, state_before, area_fits, pad_to};
-ghost use Rattle.vector_run.specs.Findings.{Told, first_other, numbers_from, results_of, singles_of, answer_told, lent_finding, run_finding, CheckFinds, HexFinds, KindFinds, SizedFinds, Finds};
+ghost use Rattle.vector_run.specs.Findings.{Told, first_other, numbers_from, results_of, singles_of, answer_told, lent_finding, run_finding, CallFinds, KindFinds, SizedFinds, Finds};
 
 use crate::difference::Difference;
 use sangolid::{sangolid_check, sangolid_hex, sangolid_run};
@@ -122,22 +122,19 @@ fn judge_run(line: &[u8], code: &[u8], area: &mut [u8]) -> Result<(), Difference
     judge_lent(line, code, &mut constants[..size], area)
 }
 
-/// Checks the block, over areas as long as the line says, and compares.
-fn judge_check(line: &[u8], code: &[u8], marks: &mut [u8]) -> Result<(), Difference>
-    ensures { CheckFinds line.now code.now marks.old result }
+/// Calls a check of a block or the reading of a hex file, over areas as long as the line says, and compares what it answers.
+fn judge_answer<F: FnOnce(&[u8], &mut [u8], &mut [u32]) -> u32>(
+    line: &[u8],
+    code: &[u8],
+    area: &mut [u8],
+    call: F,
+) -> Result<(), Difference>
+    requires { F.IsAlwaysCallable call }
+    ensures { CallFinds (F.post call) line.now code.now area.old result }
 {
     let mut answer = [0];
-    let number = sangolid_check(code, marks, &mut answer);
-    compare_answer(line, number, answer[0], marks)
-}
-
-/// Reads the hex file, over areas as long as the line says, and compares.
-fn judge_hex(line: &[u8], text: &[u8], code: &mut [u8]) -> Result<(), Difference>
-    ensures { HexFinds line.now text.now code.old result }
-{
-    let mut answer = [0];
-    let number = sangolid_hex(text, code, &mut answer);
-    compare_answer(line, number, answer[0], code)
+    let number = call(code, area, &mut answer);
+    compare_answer(line, number, answer[0], area)
 }
 
 /// Fills areas as long as the line says, and judges the case by its kind.
@@ -148,8 +145,8 @@ fn judge_filled(line: &[u8], kind: Kind, code: &mut [u8], area: &mut [u8]) -> Re
     fill(area, field(line, 16));
     match kind {
         Kind::Run => judge_run(line, code, area),
-        Kind::Check => judge_check(line, code, area),
-        Kind::Hex => judge_hex(line, code, area),
+        Kind::Check => judge_answer(line, code, area, sangolid_check),
+        Kind::Hex => judge_answer(line, code, area, sangolid_hex),
     }
 }
 
