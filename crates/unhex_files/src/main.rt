@@ -12,14 +12,14 @@ fn opened<R: Files>(rt: &R, path: &[u8]) -> Option<R::File> {
     File::open(rt, name).ok()
 }
 
-/// Writes a file's name, and what is found of it.
+/// Writes a file's name, as the bytes that it is and which may be no text, and what is found of it.
 fn say_argument(rt: &(impl Files + Print), path: &[u8]) {
     rt.write_all(path).ok();
     rt.write_all(b"\t").ok();
     match opened(rt, path) {
         Some(mut file) => unhex_text::say_file(&mut file, rt),
         None => {
-            rt.write_all(b"unreadable\n").ok();
+            println!(rt; "unreadable").ok();
         }
     }
 }
