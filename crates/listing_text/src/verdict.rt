@@ -6,7 +6,7 @@ ghost use Rattle.text.specs.Fields.{newline, field};
 ghost use Rattle.listing_text.specs.Listing.{accepted_word, lines_from, body_of, text_of};
 
 use crate::lines::put_lines;
-use blockcheck::Verdict;
+use blockcheck::Refusal;
 use text::Buffer;
 
 /// Writes the lines of an accepted block, and the count of its instructions.
@@ -19,21 +19,17 @@ fn put_accepted(code: &[u8], count: usize, out: &mut Buffer)
 }
 
 /// Writes what follows the header.
-fn put_body(code: &[u8], verdict: Verdict, out: &mut Buffer)
+fn put_body(code: &[u8], verdict: Result<usize, Refusal>, out: &mut Buffer)
     ensures { Adds out.old (body_of code.now (number_of verdict) (value_of verdict)) out.new }
 {
     match verdict {
-        Verdict::Accepted(count) => put_accepted(code, count, out),
-        Verdict::BadLength => out.refusal(10, 0),
-        Verdict::BadMarks => out.refusal(14, 0),
-        Verdict::CutAt(offset) => out.refusal(21, offset),
-        Verdict::UnknownAt(offset) => out.refusal(22, offset),
-        Verdict::AstrayAt(offset) => out.refusal(23, offset),
+        Ok(count) => put_accepted(code, count, out),
+        Err(refusal) => out.refusal(refusal.number() as usize, refusal.offset()),
     }
 }
 
 /// Writes the whole text.
-pub fn put_text(code: &[u8], verdict: Verdict, out: &mut Buffer)
+pub fn put_text(code: &[u8], verdict: Result<usize, Refusal>, out: &mut Buffer)
     ensures { Adds out.old (text_of code.now (number_of verdict) (value_of verdict)) out.new }
 {
     out.bytes(b"offset\tlength\topcode\n");
