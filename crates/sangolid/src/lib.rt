@@ -131,7 +131,14 @@ pub fn sangolid_hex(text: &[u8], code: &mut [u8], answer: &mut [u32]) -> u32
     if answer.len() != 1 {
         return 90;
     }
-    let read = intel_hex::read(text, code);
-    answer[0] = word_of(intel_hex::value_of(read));
-    intel_hex::number_of(read)
+    match intel_hex::read(text, code) {
+        Ok(size) => {
+            answer[0] = word_of(size);
+            0
+        }
+        Err(refused) => {
+            answer[0] = word_of(refused.line);
+            refused.fault.number()
+        }
+    }
 }

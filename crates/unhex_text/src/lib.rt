@@ -5,7 +5,6 @@ ghost use Rattle.std.specs.Prelude.{◌≤◌, length, IfSome};
 ghost use Rattle.text.specs.Written.{Adds};
 ghost use Rattle.unhex_text.specs.Unhexing.{code_line, Tells, Unhexed};
 
-use intel_hex::{number_of, value_of};
 use std::io::Read;
 use streams::read_full;
 use text::Buffer;
@@ -33,15 +32,16 @@ fn tell(text: &[u8], code: &mut [u8], line: &mut Buffer) -> Option<usize>
         line.bytes(b"refused\tlonger than 1048576 bytes\n");
         return None;
     }
-    let answer = intel_hex::read(text, code);
-    let number = number_of(answer) as usize;
-    let value = value_of(answer);
-    if number == 0 {
-        put_code(line, value);
-        return Some(value);
+    match intel_hex::read(text, code) {
+        Ok(size) => {
+            put_code(line, size);
+            Some(size)
+        }
+        Err(refused) => {
+            line.refusal(refused.fault.number() as usize, refused.line);
+            None
+        }
     }
-    line.refusal(number, value);
-    None
 }
 
 /// Reads a file into the code area, and writes the line that tells the answer from the start of a buffer on.

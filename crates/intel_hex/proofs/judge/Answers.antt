@@ -1,15 +1,28 @@
--- `intel_hex::judge` meets its contract: the lines before `at` stand. Assumes nothing.
+-- `intel_hex::judge` meets its contract: the lines split off so far stand. Assumes nothing.
+use borrow.Author.Rules.{rules}
+use Rattle.intel_hex.proofs.Lining.{first_line}
 use Rattle.intel_hex.proofs.Passing.{passes_begin, passes_go, passes_stop, passes_end}
 use Rattle.intel_hex.proofs.judge.Goals as goal
 
-pub loop-at-init : goal.loop-at-init
-loop-at-init c = passes_begin c.args.text.now c.args.size c.args.image.now c.requires
+pub loop-before-init : goal.loop-before-init
+loop-before-init c =
+    rw (c.into_iter-before-iterator.ensures.into_iter_gives, c.enumerate-before-items.ensures.source, c.enumerate-before-items.ensures.count, c.split_inclusive.ensures.rest)
+    (passes_begin c.args.text.now c.args.size c.args.image.now.cells c.requires)
 
-pub loop-at-preserved : goal.loop-at-preserved
-loop-at-preserved c = passes_go c.loop-at.invariant c.line_end-next.ensures (rw c.in-Sound.is at c.judge_line.ensures)
+pub judge_line-requires : goal.judge_line-requires
+judge_line-requires c = c.loop-before.invariant.known.half
 
-pub returns-in-Faulty : goal.returns-in-Faulty
-returns-in-Faulty c = passes_stop c.loop-at.invariant c.line_end-next.ensures (rw c.in-Faulty.is at c.judge_line.ensures)
+pub loop-before-preserved : goal.loop-before-preserved
+loop-before-preserved c =
+    let steps = c.in-Some.ensures.steps in
+    let first = first_line _ c.loop-before.before-iterator.iter.rest.now c.in-Some.line.now c.next.new.self.iter.rest.now _ _ (λ a r f k. search rules) steps.0.0 steps.0.1 steps.0.2 in
+    rw steps.2 (passes_go c.loop-before.invariant _ first (rw c.in-Ok.is at c.judge_line.ensures))
+
+pub returns-in-Err : goal.returns-in-Err
+returns-in-Err c =
+    let steps = c.in-Some.ensures.steps in
+    let first = first_line _ c.loop-before.before-iterator.iter.rest.now c.in-Some.line.now c.next.new.self.iter.rest.now _ _ (λ a r f k. search rules) steps.0.0 steps.0.1 steps.0.2 in
+    rw steps.1 (passes_stop c.loop-before.invariant _ first (rw c.in-Err.is at c.judge_line.ensures))
 
 pub returns : goal.returns
-returns c = passes_end c.loop-at.invariant c.loop-at-test.false
+returns c = passes_end c.loop-before.invariant c.in-None.ensures.steps.0.0

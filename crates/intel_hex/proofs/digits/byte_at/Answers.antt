@@ -5,4 +5,4 @@ use Rattle.intel_hex.proofs.digits.byte_at.Goals as goal
 
 pub returns : goal.returns
 unfolding byte_at
-returns c = rw (c.digit-low.ensures.0, c.digit-high.ensures.0, add-one)
+returns c = rw (c.worth.ensures.0, c.worth-2.ensures.0, add-one)
