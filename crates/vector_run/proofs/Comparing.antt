@@ -1,11 +1,10 @@
 -- What came out against the line, a field at a time. Assumes nothing.
-use Rattle.std.proofs.Common.{◌≡◌, ℕ, suc, ◌+◌, ◌%◌, ◌^◌, ◌<◌, ◌≤◌, Bool, true, false, cond, List, [], ◌∷◌, ◌++◌, length, get_or, drop, refl, ◌∙◌, add-one, arith, drop_of_length-le, drop-cons, eq-eqb, ne_eqb}
+use Rattle.std.proofs.Common.{◌≡◌, ℕ, suc, ◌+◌, ◌%◌, ◌^◌, ◌<◌, ◌≤◌, Bool, true, false, cond, List, Err, [], ◌∷◌, ◌++◌, length, get_or, drop, refl, ◌∙◌, add-one, arith, drop_of_length-le, drop-cons, eq-eqb, ne_eqb}
 use Rattle.vector_text.specs.Hex.{value_of, bytes_of, is_held}
 use Rattle.vector_text.specs.Fields.{field_of}
-use Rattle.vector_run.specs.declared.judging.Finding.{Finding}
-use Rattle.vector_run.specs.declared.judging.Finding.TheVariants.{Same, DiffersIn}
+use Rattle.vector_run.specs.declared.difference.Difference.{Difference}
 use Rattle.vector_run.specs.Cases.{number_of}
-use Rattle.vector_run.specs.Findings.{Told, agrees, field_for, first_other, first_found, numbers_from}
+use Rattle.vector_run.specs.Findings.{Finding, Same, DiffersIn, Told, agrees, field_for, first_other, numbers_from}
 
 module _ (line : List ℕ) (k n : ℕ) (later : List Told) where
   -- a number that the line has too
@@ -64,19 +63,24 @@ pub compare_ends : {line numbers : List ℕ} {first i : ℕ} → Comparing line 
 unfolding first_other numbers_from
 compare_ends {numbers} so over = so.rest ∙ rw (drop_of_length-le numbers over)
 
--- the first of two findings, by what is told first
-one_told : (same : Bool) (found later : Finding) (k : ℕ) → cond same (first_found found later) (DiffersIn k) ≡ first_found (cond same found (DiffersIn k)) later
-unfolding first_found
-one_told true found later k = refl
-one_told false found later k = refl
+-- one value more that is told first
+later_by : (t : Bool) {first both later : Finding} (k : ℕ) → cond t first (DiffersIn k) ≡ Same → (first ≡ Same → both ≡ later) → cond t both (DiffersIn k) ≡ later
+later_by true k is goes = goes is
+later_by false k is goes = absurd (let z : ◌≡◌ {A = ℕ} 0 1 = cc in omega arith)
 
--- of what is told and what is told later, the first that differs
-told_both : (line : List ℕ) (told later : List Told) → first_other line (told ++ later) ≡ first_found (first_other line told) (first_other line later)
-unfolding first_other first_found
-told_both line [] later = refl
-told_both line (one ∷ told) later = rw (told_both line told later) (one_told (agrees line one) (first_other line told) (first_other line later) (field_for one))
+first_by : (t : Bool) {first both : Finding} {difference : Difference} (k : ℕ) → cond t first (DiffersIn k) ≡ Err difference
+    → (first ≡ Err difference → both ≡ Err difference) → cond t both (DiffersIn k) ≡ Err difference
+first_by true k is goes = goes is
+first_by false k is goes = is
 
--- three findings, of what is told one after another
-pub told_three : (line : List ℕ) (a b c : List Told) {x y z later r : Finding} → x ≡ first_other line a → y ≡ first_other line b → z ≡ first_other line c
-    → later ≡ first_found y z → r ≡ first_found x later → r ≡ first_other line (a ++ (b ++ c))
-told_three line a b c is_a is_b is_c behind found = found ∙ rw (behind, is_a, is_b, is_c, told_both line a (b ++ c), told_both line b c)
+-- what is told later decides, if all that is told first agrees
+pub told_later : (line : List ℕ) (told later : List Told) → first_other line told ≡ Same → first_other line (told ++ later) ≡ first_other line later
+unfolding first_other
+told_later line [] later is = refl
+told_later line (one ∷ told) later is = later_by (agrees line one) (field_for one) is (told_later line told later)
+
+-- what is told first decides, if some of it does not agree
+pub told_first : (line : List ℕ) (told later : List Told) {difference : Difference} → first_other line told ≡ Err difference → first_other line (told ++ later) ≡ Err difference
+unfolding first_other
+told_first line [] later is = absurd (let z : ◌≡◌ {A = ℕ} 0 1 = cc in omega arith)
+told_first line (one ∷ told) later is = first_by (agrees line one) (field_for one) is (told_first line told later)

@@ -1,13 +1,29 @@
 -- The finding of a case: the first field in which it comes out otherwise than its line says. Assumes nothing.
-use Rattle.std.specs.Prelude.{◌≡◌, ℕ, suc, Bool, true, false, List, [], ◌∷◌, ◌++◌, map, ◌==◌, slice_index, if◌then◌else◌}
+use Rattle.std.specs.Prelude.{◌≡◌, ℕ, suc, Bool, true, false, List, [], ◌∷◌, ◌++◌, map, ◌==◌, slice_index, if◌then◌else◌, Result, Ok, Err}
 use Rattle.run.specs.Steps.{fixed_to}
 use Rattle.sangolid.specs.Interface.{Call, call_of, Checks, Unhexes}
 use Rattle.vector_text.specs.Hex.{bytes_of, is_held}
 use Rattle.vector_text.specs.Fields.{field_of}
-use Rattle.vector_run.specs.declared.judging.Finding.{Finding}
+use Rattle.vector_run.specs.declared.difference.Difference.{Difference}
+use Rattle.vector_run.specs.declared.difference.Difference.TheVariants.{Field, Malformed as malformed}
 use Rattle.vector_run.specs.declared.judging.Kind.{Kind}
-use Rattle.vector_run.specs.declared.judging.Finding.TheVariants.{Same, DiffersIn, Malformed}
 use Rattle.vector_run.specs.Cases.{number_of, state_before, area_fits, code_of, area_of, constants_of, is_run, is_check, is_hex}
+
+-- what is found of a case
+abbrev pub Finding : Type 0
+Finding = Result (Unit {0}) Difference
+
+-- it comes out as its line says
+abbrev pub Same : Finding
+Same = Ok tt
+
+-- it differs first in the field of a number
+abbrev pub DiffersIn : ℕ → Finding
+DiffersIn k = Err (Field k)
+
+-- its line is malformed
+abbrev pub Malformed : Finding
+Malformed = Err malformed
 
 -- what came out, for a field of the line: a number, or an area
 pub data Told : Type 0 where
@@ -33,12 +49,6 @@ field_for (Told.the_area k bytes) = k
 unfoldable pub first_other : List ℕ → List Told → Finding
 first_other line [] = Same
 first_other line (told ∷ later) = if agrees line told then first_other line later else DiffersIn (field_for told)
-
--- of two findings the first, unless it is the same: then the later one; for private functions on the way
-unfoldable pub first_found : Finding → Finding → Finding
-first_found Same later = later
-first_found (DiffersIn k) later = DiffersIn k
-first_found Malformed later = Malformed
 
 -- numbers for the fields from k on
 unfoldable pub numbers_from : ℕ → List ℕ → List Told
