@@ -1,4 +1,4 @@
--- `listing_text::verdict::put_body` meets its contract: the body of each answer. Assumes nothing.
+-- The body of each answer.
 use mathlib.Core.Path.{◌≡◌, refl}
 use mathlib.Core.List.{List}
 use Prim.Native.Nat.{ℕ}
@@ -24,4 +24,4 @@ returns-in-Ok c = rw c.in-Ok.is c.put_accepted.ensures
 
 pub returns-in-Err : goal.returns-in-Err
 returns-in-Err c =
-    rw (c.in-Err.is, refused_body c.args.code.now c.in-Err.refusal, ← c.number.ensures, ← c.offset.ensures) c.put_refusal.ensures
+    rw (c.in-Err.is, refused_body c.args.code.now c.in-Err.refusal, ← c.number.ensures, ← c.offset.ensures) c.refusal.ensures
