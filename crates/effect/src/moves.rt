@@ -80,7 +80,7 @@ fn chosen(m: &Machine, n: u32, p: &Plan, r: u32) -> u32
 }
 
 /// What the operation does; a is the effective address.
-#[tactic(auto, using(crate::proofs::Assign::done_assign, crate::proofs::Assign::done_becomes), unfolding(crate::specs::Does::did, crate::specs::Does::got_of, crate::specs::Moves::move_reads, crate::specs::Moves::move_effect, crate::specs::Moves::exchanged, crate::specs::Words::onward))]
+#[tactic(auto, using(crate::proofs::Assign::done_assign, crate::proofs::Assign::done_becomes), unfolding(crate::specs::Does::did, crate::specs::Does::got_of, crate::specs::Moves::move_reads, crate::specs::Moves::move_effect, crate::specs::Moves::exchanged, crate::specs::Words::onward, width::specs::Numbers::bit))]
 pub fn moves(m: &mut Machine, op: Move, p: &Plan, a: u32, memory: &mut Memory) -> Result<(), Stop>
     ensures does { Does (did (got_of memory.old.constants.now memory.old.area.now (M.move_reads op p.now a)) (λ r s. M.move_effect op m.old p.now a r) m.old memory.old.area.now) m.old memory.old.area.now result m.new memory.new.area.now }
     ensures constants { memory.new.constants.now ≡ memory.old.constants.now }
