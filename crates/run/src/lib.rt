@@ -8,7 +8,7 @@ pub mod step;
 ghost use Rattle.std.specs.Prelude.{◌≡◌};
 ghost use Rattle.run.specs.Steps.{fixed_to};
 ghost use Rattle.run.specs.Runs.{Runs, run_from, opened, closed, run_of, told, number_at, address_at};
-ghost use Rattle.run.specs.Refusals.{ended};
+ghost use Rattle.run.specs.Ends.{ended};
 
 use crate::refusal::admit;
 use crate::step::kept_step;
