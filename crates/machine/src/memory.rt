@@ -4,7 +4,7 @@ ghost use Rattle.std.proofs.lemmas.List.Edits.{sets};
 ghost use Rattle.width.specs.Sizes.{bytes};
 ghost use Rattle.width.specs.LittleEndian.{little_endian, bytes_of};
 ghost use Rattle.machine.specs.Memory.{place_of, first_outside, first_unread, read_of, load_of, stored_of, store_of};
-ghost use Rattle.machine.specs.Answers.{shown, loaded_as, stored_as};
+ghost use Rattle.machine.specs.Answers.{shown, loaded_as, stored_as, SameAreas};
 
 use width::Size;
 
@@ -139,8 +139,7 @@ impl<'a> Memory<'a> {
         ensures answer { stored_of self.old.area.now w a ≡ stored_as result }
         ensures data { self.new.area.now ≡ store_of self.old.area.now w a v }
         ensures err { OnErr result (self.new.area.now ≡ self.old.area.now) }
-        ensures constants { self.new.constants.now ≡ self.old.constants.now }
-        ensures same_area { self.new.area.ghost_name ≡ self.old.area.ghost_name }
+        ensures same_areas { SameAreas self.old self.new }
     {
         let Some(at) = locate(DATA, self.area.len(), width::bytes(w), a) else {
             return Err(Outside {
