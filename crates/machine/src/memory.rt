@@ -40,7 +40,7 @@ fn first_outside(base: u32, len: usize, a: u32) -> u32
     ensures { result ≡ first_outside base len a }
 {
     match locate(base, len, 1, a) {
-        Some(_) => ((base as u64 + len as u64 % 0x1_0000_0000) % 0x1_0000_0000) as u32,
+        Some(_) => base.wrapping_add((len % 0x1_0000_0000) as u32),
         None => a,
     }
 }
@@ -54,12 +54,8 @@ fn number(part: &[u8], w: Size) -> u32
 {
     match w {
         Size::Byte => u32::from(part[0]),
-        Size::Word => u32::from(part[0]) + 0x100 * u32::from(part[1]),
-        Size::Dword => {
-            u32::from(part[0])
-                + 0x100 * u32::from(part[1])
-                + 0x1_0000 * (u32::from(part[2]) + 0x100 * u32::from(part[3]))
-        }
+        Size::Word => u32::from(u16::from_le_bytes([part[0], part[1]])),
+        Size::Dword => u32::from_le_bytes([part[0], part[1], part[2], part[3]]),
     }
 }
 
