@@ -15,4 +15,5 @@ hand_back-requires c =
 pub returns : goal.returns
 returns c =
     let a = c.args in
-    calls_run a.state.now (fixed_to a.code.now a.constants.now) a.area.now a.budget c.if-state-ne20.false c.lent.ensures c.run-ran.ensures c.hand_back.ensures
+    rw c.number.ensures
+    (calls_run a.state.now (fixed_to a.code.now a.constants.now) a.area.now a.budget c.if-state-ne20.false c.lent.ensures c.run-ran.ensures c.hand_back.ensures)
