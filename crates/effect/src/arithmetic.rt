@@ -14,7 +14,7 @@ use arith::{Binary, Single};
 use bits::{BitTest, DoubleShift, Scan};
 use flags::Word;
 use machine::memory::{Memory, Outside};
-use machine::registers::{EAX, EDX, Machine};
+use machine::registers::{AH, EAX, EDX, Machine};
 use plan::{Operand, Plan};
 use product::Division;
 use sense::{Arithmetic, Bits};
@@ -192,7 +192,7 @@ fn upper(w: Size) -> u32
     ensures { result ≡ Op.upper w }
 {
     match w {
-        Size::Byte => 4,
+        Size::Byte => AH,
         Size::Word | Size::Dword => EDX,
     }
 }

@@ -10,7 +10,7 @@ use crate::stop::Stop;
 use crate::words::{assign, fetch, value, write};
 use flags::{Flags, Word};
 use machine::memory::Memory;
-use machine::registers::{EAX, EDX, Machine};
+use machine::registers::{AH, EAX, EDX, Machine};
 use plan::Plan;
 use sense::{Flagging, Move};
 use width::Size;
@@ -138,11 +138,11 @@ pub fn moves(m: &mut Machine, op: Move, p: &Plan, a: u32, memory: &mut Memory) -
         Move::Lahf => {
             let v = flags::ah(m.flags().unpack());
             m.set_eip(p.next);
-            m.set_part(Size::Byte, 4, v);
+            m.set_part(Size::Byte, AH, v);
             Ok(())
         }
         Move::Sahf => {
-            let f = flags::with_ah(m.part(Size::Byte, 4), m.flags().unpack());
+            let f = flags::with_ah(m.part(Size::Byte, AH), m.flags().unpack());
             m.set_eip(p.next);
             m.set_flags(Word::pack(f));
             Ok(())

@@ -28,7 +28,7 @@ fn above(m: &Machine, i: u32, n: u32) -> u32
 #[inline(always)]
 #[tactic(auto, unfolding(crate::specs::Stacks::above, width::specs::Numbers::rest, width::specs::Numbers::residue, width::specs::Sizes::modulus, width::specs::Sizes::bits))]
 fn released(m: &Machine, n: u32) -> u32
-    ensures { result ≡ S.above m.now 4 (4 + n) }
+    ensures { result ≡ S.above m.now S.esp (4 + n) }
 {
     m.register(ESP).wrapping_add(4).wrapping_add(n)
 }

@@ -22,11 +22,7 @@ use width::Size;
 fn pass(m: &mut Machine, w: Size, i: u32)
     ensures { m.new ≡ S.passed m.old w i }
 {
-    let size = match w {
-        Size::Byte => 1,
-        Size::Word => 2,
-        Size::Dword => 4,
-    };
+    let size = width::bytes(w) as u32;
     let a = m.register(i);
     let on = if m.flags().unpack().df {
         a.wrapping_sub(size)

@@ -1,4 +1,4 @@
-// The plan of a step: which operation, at which size, on which operands, and where it goes on.
+//! The plan of a step: which operation, at which size, on which operands, and where it goes on.
 #![tactic(auto)]
 
 ghost use Rattle.std.specs.Prelude.{◌≡◌, ◌^◌, ◌<◌};
@@ -11,7 +11,7 @@ use machine::registers::Machine;
 use sense::{Operation, Place, Sense};
 use width::Size;
 
-// An operand: a part of a register, the memory at the effective address, or a number.
+/// An operand: a part of a register, the memory at the effective address, or a number.
 #[derive(Clone, Copy)]
 pub enum Operand {
     Register(u32),
@@ -19,7 +19,7 @@ pub enum Operand {
     Number(u32),
 }
 
-// What an effective address is computed from.
+/// What an effective address is computed from.
 #[derive(Clone, Copy)]
 pub struct Address {
     pub modrm: u8,
@@ -27,7 +27,7 @@ pub struct Address {
     pub displacement: u32,
 }
 
-// What one step does, of its instruction and place alone.
+/// What one step does, of its instruction and place alone.
 #[derive(Clone, Copy)]
 pub struct Plan {
     pub operation: Operation,
@@ -36,11 +36,11 @@ pub struct Plan {
     pub source: Operand,
     pub other: Operand,
     pub repeat: Repeat,
-    // The address of the next instruction.
+    /// The address of the next instruction.
     pub next: u32,
-    // The address that a displacement leads to.
+    /// The address that a displacement leads to.
     pub target: u32,
-    // Where the operand in memory is.
+    /// Where the operand in memory is.
     pub address: Address,
 }
 
@@ -89,7 +89,7 @@ pub fn effective_address(m: &Machine, a: Address) -> u32
     width::low(Size::Dword, base + a.displacement as u64)
 }
 
-// Bytes; else words under 66, and doublewords without.
+/// Bytes; else words under 66, and doublewords without.
 pub fn size_of(byte: bool, narrow: bool) -> Size
     ensures { result ≡ size_of byte narrow }
 {
@@ -99,7 +99,7 @@ pub fn size_of(byte: bool, narrow: bool) -> Size
     if narrow { Size::Word } else { Size::Dword }
 }
 
-// The operand at a place.
+/// The operand at a place.
 pub fn operand_at(place: Place, d: Decoded, w: Size) -> Operand
     ensures { result ≡ operand_of place d w }
 {
@@ -123,7 +123,7 @@ pub fn operand_at(place: Place, d: Decoded, w: Size) -> Operand
     }
 }
 
-// The immediate as a displacement alone: Mod 0 and R/M 5.
+/// The immediate as a displacement alone: Mod 0 and R/M 5.
 fn offset_alone(immediate: u32) -> Address
     ensures { result ≡ offset_alone immediate }
 {
@@ -134,7 +134,7 @@ fn offset_alone(immediate: u32) -> Address
     }
 }
 
-// Whether a place is memory at an offset, the immediate.
+/// Whether a place is memory at an offset, the immediate.
 fn is_offset(place: Place) -> bool
     ensures { result ≡ is_offset place }
 {
@@ -152,7 +152,7 @@ fn is_offset(place: Place) -> bool
     }
 }
 
-// What the effective address is computed from: the offset alone, as a displacement; else the instruction's ModR/M, SIB and displacement.
+/// What the effective address is computed from: the offset alone, as a displacement; else the instruction's ModR/M, SIB and displacement.
 fn address_in(s: Sense, d: Decoded) -> Address
     ensures { result ≡ address_in s d }
 {
@@ -171,7 +171,7 @@ fn address_in(s: Sense, d: Decoded) -> Address
     }
 }
 
-// The address of the next instruction.
+/// The address of the next instruction.
 pub fn next_of(eip: u32, d: Decoded) -> u32
     ensures { result ≡ next_of eip d }
 {
@@ -179,7 +179,7 @@ pub fn next_of(eip: u32, d: Decoded) -> u32
     width::low(Size::Dword, eip as u64 + size)
 }
 
-// The plan, from what the opcode means, its operation and its size.
+/// The plan, from what the opcode means, its operation and its size.
 pub fn plan_for(eip: u32, d: Decoded, s: Sense, operation: Operation, w: Size, target: u32) -> Plan
     ensures { result ≡ plan_for eip d s operation w target }
 {
@@ -200,7 +200,7 @@ pub fn plan_for(eip: u32, d: Decoded, s: Sense, operation: Operation, w: Size, t
     }
 }
 
-// Where a displacement leads from the next instruction; with none, on.
+/// Where a displacement leads from the next instruction; with none, on.
 fn lead(relative: Option<u32>, next: u32) -> u32
     ensures { result ≡ leads relative next }
 {
@@ -210,7 +210,7 @@ fn lead(relative: Option<u32>, next: u32) -> u32
     }
 }
 
-// The plan of a decoded instruction at an address.
+/// The plan of a decoded instruction at an address.
 pub fn plan_of(eip: u32, d: Decoded) -> Plan
     ensures { result ≡ plan_of eip d }
 {
