@@ -143,18 +143,7 @@ fn offset_alone(immediate: u32) -> Address
 fn is_offset(place: Place) -> bool
     ensures { result ≡ is_offset place }
 {
-    match place {
-        Place::Absent
-        | Place::Rm
-        | Place::Reg
-        | Place::Accumulator
-        | Place::OpcodeRegister
-        | Place::Immediate
-        | Place::SignedImmediate
-        | Place::One
-        | Place::Cl => false,
-        Place::Offset => true,
-    }
+    matches!(place, Place::Offset)
 }
 
 /// What the effective address is computed from: the offset alone, as a displacement; else the instruction's ModR/M, SIB and displacement.
