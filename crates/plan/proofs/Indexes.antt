@@ -1,11 +1,10 @@
--- A SIB byte's index: 4 is none, any other a register that is shifted; and what the displacement is added to. Assumes nothing.
+-- A SIB byte's index: 4 is none, any other a register that is shifted. Assumes nothing.
 use mathlib.Core.Path.{◌≡◌, ap}
 use Prim.Native.Nat.{ℕ, ◌+◌, ◌*◌, ◌/◌, ◌%◌, ◌^◌}
 use borrow.Author.Tests.{eq-eqb, ne_eqb}
-use Rattle.grammar.specs.Grammar.{rm_of, base_of}
 use Rattle.machine.specs.declared.registers.Machine.{Machine}
 use Rattle.machine.specs.Registers.{register}
-use Rattle.plan.specs.Addresses.{scaled_index, base_register, address_base}
+use Rattle.plan.specs.Addresses.{scaled_index}
 
 module _ (m : Machine) (sib : ℕ) where
   -- index 4 is none, and not ESP
@@ -17,14 +16,3 @@ module _ (m : Machine) (sib : ℕ) where
   pub shifted : (v : ℕ) → (sib / 8 % 8 ≡ 4 → ⊥) → register m (sib / 8 % 8) ≡ v → scaled_index m sib % 2 ^ 32 ≡ v * 2 ^ (sib / 64) % 2 ^ 32
   unfolding scaled_index
   shifted v h e = let times : scaled_index m sib ≡ v * 2 ^ (sib / 64) = rw (ne_eqb _ _ h, e) in ap (λ (n : ℕ). n % 2 ^ 32) times
-
-  module _ (modrm : ℕ) where
-    -- with R/M 4 the SIB byte says both
-    pub by_sib : rm_of modrm ≡ 4 → address_base m modrm sib ≡ base_register m modrm (base_of sib) + scaled_index m sib
-    unfolding address_base
-    by_sib h = rw (eq-eqb _ _ h)
-
-    -- with any other R/M it is a register
-    pub by_rm : (rm_of modrm ≡ 4 → ⊥) → address_base m modrm sib ≡ base_register m modrm (rm_of modrm)
-    unfolding address_base
-    by_rm h = rw (ne_eqb _ _ h)

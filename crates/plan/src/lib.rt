@@ -152,6 +152,7 @@ fn is_offset(place: Place) -> bool
 }
 
 /// What the effective address is computed from: the offset alone, as a displacement; else the instruction's ModR/M, SIB and displacement.
+#[tactic(auto, unfolding(crate::specs::Plans::address_in))]
 fn address_in(s: Sense, d: Decoded) -> Address
     ensures { result ≡ address_in s d }
 {
@@ -166,6 +167,7 @@ fn address_in(s: Sense, d: Decoded) -> Address
 }
 
 /// The address of the next instruction.
+#[tactic(auto, unfolding(crate::specs::Plans::next_of, width::specs::Numbers::rest, width::specs::Numbers::residue, width::specs::Sizes::modulus, width::specs::Sizes::bits))]
 pub fn next_of(eip: u32, d: Decoded) -> u32
     ensures { result ≡ next_of eip d }
 {
@@ -173,6 +175,7 @@ pub fn next_of(eip: u32, d: Decoded) -> u32
 }
 
 /// The plan, from what the opcode means, its operation and its size.
+#[tactic(auto, unfolding(crate::specs::Plans::plan_for))]
 pub fn plan_for(eip: u32, d: Decoded, s: Sense, operation: Operation, w: Size, target: u32) -> Plan
     ensures { result ≡ plan_for eip d s operation w target }
 {
@@ -190,6 +193,7 @@ pub fn plan_for(eip: u32, d: Decoded, s: Sense, operation: Operation, w: Size, t
 }
 
 /// Where a displacement leads from the next instruction; with none, on.
+#[tactic(auto, unfolding(crate::specs::Plans::leads, width::specs::Numbers::rest, width::specs::Numbers::residue, width::specs::Sizes::modulus, width::specs::Sizes::bits))]
 fn lead(relative: Option<u32>, next: u32) -> u32
     ensures { result ≡ leads relative next }
 {
@@ -200,6 +204,7 @@ fn lead(relative: Option<u32>, next: u32) -> u32
 }
 
 /// The plan of a decoded instruction at an address.
+#[tactic(auto, unfolding(crate::specs::Plans::plan_of))]
 pub fn plan_of(eip: u32, d: Decoded) -> Plan
     ensures { result ≡ plan_of eip d }
 {
