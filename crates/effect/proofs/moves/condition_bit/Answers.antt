@@ -3,4 +3,4 @@ use Rattle.width.proofs.Truths.{truth}
 use Rattle.effect.proofs.moves.condition_bit.Goals as goal
 
 pub returns : goal.returns
-returns c = simp (c.from.ensures, (truth c.meets.result).is, c.meets.ensures, c.unpack.ensures)
+returns c = rw (c.from.ensures, (truth c.meets.result).is, c.meets.ensures, c.unpack.ensures)
