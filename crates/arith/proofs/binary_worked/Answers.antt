@@ -8,7 +8,7 @@ returns-in-Add c = rw c.in-Add.is c.carried.ensures
 
 pub returns-in-Or : goal.returns-in-Or
 unfolding binary_value binary_flags sum_flags difference_flags
-returns-in-Or c = rw c.in-Or.is (rw (c.from.ensures, c.from-in-Or.ensures) at c.logic.ensures)
+returns-in-Or c = rw c.in-Or.is c.logic.ensures
 
 pub returns-in-Adc : goal.returns-in-Adc
 unfolding binary_value binary_flags sum_flags difference_flags
@@ -20,7 +20,7 @@ returns-in-Sbb c = rw c.in-Sbb.is (rw c.unpack-in-Sbb.ensures at c.carried-in-Sb
 
 pub returns-in-And : goal.returns-in-And
 unfolding binary_value binary_flags sum_flags difference_flags
-returns-in-And c = rw c.in-And.is (rw (c.from-in-And.ensures, c.from-in-And-2.ensures) at c.logic-in-And.ensures)
+returns-in-And c = rw c.in-And.is c.logic-in-And.ensures
 
 pub returns-in-Sub : goal.returns-in-Sub
 unfolding binary_value binary_flags sum_flags difference_flags
@@ -28,7 +28,7 @@ returns-in-Sub c = rw c.in-Sub.is c.carried-in-Sub.ensures
 
 pub returns-in-Xor : goal.returns-in-Xor
 unfolding binary_value binary_flags sum_flags difference_flags
-returns-in-Xor c = rw c.in-Xor.is (rw (c.from-in-Xor.ensures, c.from-in-Xor-2.ensures) at c.logic-in-Xor.ensures)
+returns-in-Xor c = rw c.in-Xor.is c.logic-in-Xor.ensures
 
 pub returns-in-Cmp : goal.returns-in-Cmp
 unfolding binary_value binary_flags sum_flags difference_flags
