@@ -66,9 +66,8 @@ pub fn binary_worked(op: Binary, w: Size, a: u32, b: u32, word: u32) -> Worked
         Binary::Adc => carried::<Add>(flags::unpack(word).cf, w, a, b, word),
         Binary::Sbb => carried::<Subtract>(flags::unpack(word).cf, w, a, b, word),
         Binary::And => logic(w, a & b, word),
-        Binary::Sub => carried::<Subtract>(false, w, a, b, word),
         Binary::Xor => logic(w, a ^ b, word),
-        Binary::Cmp => carried::<Subtract>(false, w, a, b, word),
+        Binary::Sub | Binary::Cmp => carried::<Subtract>(false, w, a, b, word),
     }
 }
 
