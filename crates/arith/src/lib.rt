@@ -45,10 +45,10 @@ pub struct Worked {
 }
 
 /// The rest of v at the size as the result of a logic operation, and the word of its flags.
-fn logic(w: Size, v: u64, word: u32) -> Worked
+fn logic(w: Size, v: u32, word: u32) -> Worked
     ensures { Works (rest w (pos v)) (logic_flags w (rest w (pos v)) (Word.flags_of word)) result }
 {
-    let r = w.low(v);
+    let r = w.low(u64::from(v));
     let af = flags::undefined(flags::unpack(word).af);
     Worked {
         value: r,
@@ -62,13 +62,12 @@ pub fn binary_worked(op: Binary, w: Size, a: u32, b: u32, word: u32) -> Worked
 {
     match op {
         Binary::Add => carried::<Add>(false, w, a, b, word),
-        Binary::Or => logic(w, u64::from(a) | u64::from(b), word),
+        Binary::Or => logic(w, a | b, word),
         Binary::Adc => carried::<Add>(flags::unpack(word).cf, w, a, b, word),
         Binary::Sbb => carried::<Subtract>(flags::unpack(word).cf, w, a, b, word),
-        Binary::And => logic(w, u64::from(a) & u64::from(b), word),
-        Binary::Sub => carried::<Subtract>(false, w, a, b, word),
-        Binary::Xor => logic(w, u64::from(a) ^ u64::from(b), word),
-        Binary::Cmp => carried::<Subtract>(false, w, a, b, word),
+        Binary::And => logic(w, a & b, word),
+        Binary::Xor => logic(w, a ^ b, word),
+        Binary::Sub | Binary::Cmp => carried::<Subtract>(false, w, a, b, word),
     }
 }
 

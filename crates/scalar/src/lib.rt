@@ -42,11 +42,7 @@ fn quieted(bits: u32) -> u32
 fn result(x: f32) -> u32
     ensures { result ≡ result_of x }
 {
-    if x.is_nan() {
-        0xFFC0_0000
-    } else {
-        x.to_bits()
-    }
+    if x.is_nan() { 0xFFC0_0000 } else { x.to_bits() }
 }
 
 /// The first operand if it is a NaN, else the second, with its quiet bit set.

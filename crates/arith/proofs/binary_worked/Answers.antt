@@ -1,4 +1,5 @@
 -- `arith::binary_worked` meets its contract: an operation an arm. Assumes nothing.
+use mathlib.Core.Logic.{inl, inr}
 use Rattle.arith.specs.Binary.{binary_value, binary_flags, sum_flags, difference_flags}
 use Rattle.arith.proofs.binary_worked.Goals as goal
 
@@ -8,7 +9,7 @@ returns-in-Add c = rw c.in-Add.is c.carried.ensures
 
 pub returns-in-Or : goal.returns-in-Or
 unfolding binary_value binary_flags sum_flags difference_flags
-returns-in-Or c = rw c.in-Or.is (rw (c.from.ensures, c.from-in-Or.ensures) at c.logic.ensures)
+returns-in-Or c = rw c.in-Or.is c.logic.ensures
 
 pub returns-in-Adc : goal.returns-in-Adc
 unfolding binary_value binary_flags sum_flags difference_flags
@@ -20,16 +21,12 @@ returns-in-Sbb c = rw c.in-Sbb.is (rw c.unpack-in-Sbb.ensures at c.carried-in-Sb
 
 pub returns-in-And : goal.returns-in-And
 unfolding binary_value binary_flags sum_flags difference_flags
-returns-in-And c = rw c.in-And.is (rw (c.from-in-And.ensures, c.from-in-And-2.ensures) at c.logic-in-And.ensures)
-
-pub returns-in-Sub : goal.returns-in-Sub
-unfolding binary_value binary_flags sum_flags difference_flags
-returns-in-Sub c = rw c.in-Sub.is c.carried-in-Sub.ensures
+returns-in-And c = rw c.in-And.is c.logic-in-And.ensures
 
 pub returns-in-Xor : goal.returns-in-Xor
 unfolding binary_value binary_flags sum_flags difference_flags
-returns-in-Xor c = rw c.in-Xor.is (rw (c.from-in-Xor.ensures, c.from-in-Xor-2.ensures) at c.logic-in-Xor.ensures)
+returns-in-Xor c = rw c.in-Xor.is c.logic-in-Xor.ensures
 
-pub returns-in-Cmp : goal.returns-in-Cmp
+pub returns-in-Sub : goal.returns-in-Sub
 unfolding binary_value binary_flags sum_flags difference_flags
-returns-in-Cmp c = rw c.in-Cmp.is c.carried-in-Cmp.ensures
+returns-in-Sub c = elim c.in-Sub.is [ inl e ↦ rw e c.carried-in-Sub.ensures | inr e ↦ rw e c.carried-in-Sub.ensures ]

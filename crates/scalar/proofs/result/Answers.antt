@@ -1,4 +1,4 @@
--- `scalar::result` meets its contract: what differs from itself is no number. Assumes nothing.
+-- `scalar::result` meets its contract. Assumes nothing.
 use mathlib.Core.Path.{sym, ◌∙◌}
 use Rattle.scalar.proofs.Numbers.{numbered}
 use Rattle.scalar.specs.Singles.{result_of}
