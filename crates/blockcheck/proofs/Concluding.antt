@@ -11,10 +11,6 @@ use Rattle.blockcheck.specs.declared.Refusal.{Refusal}
 use Rattle.blockcheck.proofs.Cuts.{cut_unique}
 use Rattle.blockcheck.proofs.Levels.{coded_long}
 
--- the code is cut whole, and the marks are those between the passes
-pub divided_whole : {code marks : List ℕ} {count : ℕ} → Divided code (Ok count) marks → Whole code marks
-divided_whole (passes.whole {pieces} cut coded) = record { pieces = pieces; cut = cut; coded = coded }
-
 -- there are as many marks as bytes
 pub divided_long : {code marks : List ℕ} {verdict : Verdict} → Divided code verdict marks → length marks ≡ length code
 divided_long (passes.whole cut coded) = coded_long coded

@@ -20,7 +20,7 @@ use Rattle.grammar.proofs.Below.{values, everywhere}
 use Rattle.grammar.proofs.Entries.{without_rule, ends, lists_past}
 
 -- what an opcode makes of an immediate, by whether it is one of those that have rel8, or rel32
-abbrev near : ℕ → ℕ → Relative
+abbrev pub near : ℕ → ℕ → Relative
 near k = pick (lists rel8 k) (relative_by Immediate.Rel8) (pick (lists rel32 k) (relative_by Immediate.Rel32) (λ n. None))
 
 -- the rules say the same, one opcode after the other
@@ -29,7 +29,7 @@ unfolding lists rule_of pick
 all_near = refl
 
 -- so each opcode's rule does
-near_rule : (k n : ℕ) → near k n ≡ relative_in (rule_of k) n
+pub near_rule : (k n : ℕ) → near k n ≡ relative_in (rule_of k) n
 unfolding forms ends pick
 near_rule k n =
     ap (λ (f : ℕ → Relative). f n)

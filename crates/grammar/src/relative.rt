@@ -9,7 +9,7 @@ use crate::instruction::Decoded;
 pub fn relative_of(d: Decoded) -> Option<u32>
     ensures { result ≡ relative_of d }
 {
-    // Tests of the opcode, and not its row's rule: the block check asks this of each instruction, and by the table it took a tenth longer.
+    // Tests of the opcode, and not its row's rule: by the rule a block check takes more instructions (docs/DECISIONS.md).
     match d.opcode {
         0x70..=0x7F | 0xE0..=0xE3 | 0xEB => Some(extended((d.immediate % 256) as u8)),
         0xE8 | 0xE9 | 0x180..=0x18F => Some(d.immediate),
