@@ -17,6 +17,7 @@ fn is_pair(a: u8, b: u8) -> bool
 fn pairs(text: &[u8]) -> usize
     ensures { result ≡ pairs_in text.now }
 {
+    // Not chunks_exact, take_while and count: what `count` ensures of that chain left this clause open.
     let mut n = 0;
     let mut left = text;
     while let [a, b, rest @ ..] = left {
