@@ -123,13 +123,13 @@ module _ (size : ℕ) (file : File) (image : List (Option ℕ)) (line : List ℕ
 
     module _ (is : byte_at line 7 ≡ 0) where
       -- one of type 00 without data bytes
-      pub judged_empty : count ≡ 0 → file.upper < 65536 → JudgesFrom size file image line (Ok file) image
+      pub judged_empty : count ≡ 0 → JudgesFrom size file image line (Ok file) image
       unfolding record_in rising
-      judged_empty none small =
+      judged_empty none =
           quiet (of_data is) silent
           (λ records known.
           known_quiet known own file.upper (λ k. omega arith) (silent (upper_of records))
-          (known.upper ∙ sym (upper_kept (upper_of records) own (λ k. omega arith))) small)
+          (known.upper ∙ sym (upper_kept (upper_of records) own (λ k. omega arith))) known.half)
         where
           silent : (upper : ℕ) → given_by upper own ≡ []
           silent upper = given_data upper own is ∙ rw none (unfold bytes_at given_from in refl)

@@ -38,6 +38,7 @@ impl Image {
         requires within_code { size ≤ length code.old }
         ensures { Copied self.now.cells code.old size code.new }
     {
+        // By place, for nothing is known of what a zip of iter_mut writes.
         for i in 0..size {
             code[i] = self.cells[i].unwrap_or(GAP);
         }

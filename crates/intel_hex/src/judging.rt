@@ -1,5 +1,5 @@
 //! Judging a line after those before it.
-ghost use Rattle.std.specs.Prelude.{◌≡◌, ◌<◌, false};
+ghost use Rattle.std.specs.Prelude.{◌≡◌, false};
 ghost use Rattle.intel_hex.specs.Reading.{byte_at, Summed, IsRecord, ending, rising, reaching, end_judged, upper_judged, JudgesFrom};
 
 use crate::fault::Fault;
@@ -16,7 +16,7 @@ const MOST: usize = 65536;
 #[derive(Clone, Copy)]
 pub struct File {
     pub ended: bool,
-    pub upper: usize,
+    pub upper: u16,
     pub top: usize,
 }
 
@@ -34,7 +34,7 @@ impl File {
 
     /// With another upper half.
     #[tactic(auto, unfolding(crate::specs::Reading::rising))]
-    fn rising(self, upper: usize) -> Self
+    fn rising(self, upper: u16) -> Self
         ensures { result ≡ rising self upper }
     {
         File { upper, ..self }
@@ -55,13 +55,13 @@ impl File {
 /// Judges a record of type 00.
 fn judge_data(line: &Line, file: File, size: usize, image: &mut Image) -> Result<File, Fault>
     requires summed { Summed line.now.bytes.now line.now.count × (byte_at line.now.bytes.now 7 ≡ 0) }
-    requires not_ended { (file.ended ≡ false) × (file.upper < 65536) }
+    requires not_ended { file.ended ≡ false }
     ensures { JudgesFrom size file image.old.cells line.now.bytes.now result image.new.cells }
 {
     if line.count == 0 {
         return Ok(file);
     }
-    let start = file.upper * 65536 + line.offset();
+    let start = usize::from(file.upper) * 65536 + usize::from(line.offset());
     if start < CODE {
         return Err(Fault::Outside);
     }
@@ -102,7 +102,7 @@ fn judge_upper(line: &Line, file: File) -> Result<File, Fault>
 /// Judges a record.
 fn judge_record(line: &Line, file: File, size: usize, image: &mut Image) -> Result<File, Fault>
     requires is_record { IsRecord line.now.bytes.now line.now.count }
-    requires not_ended { (file.ended ≡ false) × (file.upper < 65536) }
+    requires not_ended { file.ended ≡ false }
     ensures { JudgesFrom size file image.old.cells line.now.bytes.now result image.new.cells }
 {
     if line.sum() != 0 {
@@ -118,7 +118,6 @@ fn judge_record(line: &Line, file: File, size: usize, image: &mut Image) -> Resu
 
 /// Judges a line.
 pub fn judge_line(bytes: &[u8], file: File, size: usize, image: &mut Image) -> Result<File, Fault>
-    requires { file.upper < 65536 }
     ensures { JudgesFrom size file image.old.cells bytes.now result image.new.cells }
 {
     if file.ended {

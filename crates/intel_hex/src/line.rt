@@ -17,6 +17,7 @@ fn is_pair(a: u8, b: u8) -> bool
 fn pairs(text: &[u8]) -> usize
     ensures { result ≡ pairs_in text.now }
 {
+    // Not chunks_exact, take_while and count: what `count` ensures of that chain left this clause open.
     let mut n = 0;
     let mut left = text;
     while let [a, b, rest @ ..] = left {
@@ -72,17 +73,17 @@ impl<'a> Line<'a> {
         byte_at(self.bytes, 1 + 2 * i)
     }
 
-    /// Two of its bytes as a number, the upper first: below 65,536.
-    fn pair(&self, i: usize) -> usize
+    /// Two of its bytes as a number, the upper first.
+    fn pair(&self, i: usize) -> u16
         requires { i + 1 < self.now.count + 5 }
-        ensures { (result ≡ 256 * byte_at self.now.bytes.now (1 + 2 * i) + byte_at self.now.bytes.now (3 + 2 * i)) × (result < 65536) }
+        ensures { result ≡ 256 * byte_at self.now.bytes.now (1 + 2 * i) + byte_at self.now.bytes.now (3 + 2 * i) }
     {
-        256 * usize::from(self.byte(i)) + usize::from(self.byte(i + 1))
+        256 * u16::from(self.byte(i)) + u16::from(self.byte(i + 1))
     }
 
-    /// The offset, below 65,536.
-    pub fn offset(&self) -> usize
-        ensures { (result ≡ 256 * byte_at self.now.bytes.now 3 + byte_at self.now.bytes.now 5) × (result < 65536) }
+    /// The offset.
+    pub fn offset(&self) -> u16
+        ensures { result ≡ 256 * byte_at self.now.bytes.now 3 + byte_at self.now.bytes.now 5 }
     {
         self.pair(1)
     }
@@ -102,10 +103,10 @@ impl<'a> Line<'a> {
         self.byte(4 + k)
     }
 
-    /// The upper half that two data bytes give, below 65,536.
-    pub fn upper(&self) -> usize
+    /// The upper half that two data bytes give.
+    pub fn upper(&self) -> u16
         requires { self.now.count ≡ 2 }
-        ensures { (result ≡ 256 * byte_at self.now.bytes.now 9 + byte_at self.now.bytes.now 11) × (result < 65536) }
+        ensures { result ≡ 256 * byte_at self.now.bytes.now 9 + byte_at self.now.bytes.now 11 }
     {
         self.pair(4)
     }

@@ -34,9 +34,6 @@ loop-before-init c =
     rw (c.into_iter-before-iterator.ensures.into_iter_gives, c.enumerate-before-items.ensures.source, c.enumerate-before-items.ensures.count, c.split_inclusive.ensures.rest)
     (passes_begin c.args.text.now c.args.size c.args.image.now.cells c.requires)
 
-pub judge_line-requires : goal.judge_line-requires
-judge_line-requires c = c.loop-before.invariant.known.half
-
 pub loop-before-preserved : goal.loop-before-preserved
 loop-before-preserved c =
     let steps = c.in-Some.ensures.steps in
