@@ -141,7 +141,7 @@ fn judge_filled(line: &[u8], kind: Kind, code: &mut [u8], area: &mut [u8]) -> Re
     }
 }
 
-/// Room for an area of a line: some bytes more than a run or a check may have.
+/// Room for an area of a line: some bytes more than a run or a check may have. An array, since `judge` cannot fail and a `Vec` can.
 fn room() -> [u8; 65540]
     ensures { 65540 ≡ length result }
 {
