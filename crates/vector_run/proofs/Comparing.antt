@@ -1,10 +1,11 @@
 -- What came out against the line, a field at a time. Assumes nothing.
-use Rattle.std.proofs.Common.{◌≡◌, ℕ, suc, ◌+◌, ◌%◌, ◌^◌, ◌<◌, ◌≤◌, Bool, true, false, cond, List, Err, [], ◌∷◌, ◌++◌, length, get_or, drop, refl, ◌∙◌, add-one, arith, drop_of_length-le, drop-cons, eq-eqb, ne_eqb}
+use Rattle.std.proofs.Common.{◌≡◌, ℕ, suc, ◌+◌, ◌%◌, ◌^◌, ◌<◌, ◌≤◌, Bool, true, false, cond, List, Err, [], ◌∷◌, ◌++◌, length, get_or, take, drop, length-drop, get_or-drop, append_assoc, refl, ◌∙◌, add-one, arith, drop_of_length-le, drop-cons, eq-eqb, ne_eqb}
+use Rattle.std.proofs.lemmas.List.{take_more}
 use Rattle.vector_text.specs.Hex.{value_of, bytes_of, is_held}
 use Rattle.vector_text.specs.Fields.{field_of}
 use Rattle.vector_run.specs.declared.difference.Difference.{Difference}
 use Rattle.vector_run.specs.Cases.{number_of}
-use Rattle.vector_run.specs.Findings.{Finding, Same, DiffersIn, Told, agrees, field_for, first_other, numbers_from}
+use Rattle.vector_run.specs.Findings.{Finding, Same, DiffersIn, Told, agrees, field_for, first_other, numbers_from, results_of, singles_of, run_told}
 
 module _ (line : List ℕ) (k n : ℕ) (later : List Told) where
   -- a number that the line has too
@@ -84,3 +85,31 @@ pub told_first : (line : List ℕ) (told later : List Told) {difference : Differ
 unfolding first_other
 told_first line [] later is = absurd (let z : ◌≡◌ {A = ℕ} 0 1 = cc in omega arith)
 told_first line (one ∷ told) later is = first_by (agrees line one) (field_for one) is (told_first line told later)
+
+-- a run's numbers, in two parts: its own three, and the machine but for its singles
+pub results_parts : (number : ℕ) (state : List ℕ) → length state ≡ 20
+    → numbers_from 17 (results_of number state) ≡ numbers_from 17 (number ∷ get_or state 18 0 ∷ get_or state 19 0 ∷ []) ++ numbers_from 20 (take 10 state)
+unfolding results_of numbers_from
+results_parts number state long =
+    let inside = λ (k : ℕ) (h : k < 10). take_more state k 0 (omega arith) in
+    rw (inside 9 (omega arith), inside 8 (omega arith), inside 7 (omega arith), inside 6 (omega arith), inside 5 (omega arith), inside 4 (omega arith), inside 3 (omega arith), inside 2 (omega arith), inside 1 (omega arith), inside 0 (omega arith))
+
+-- its singles
+pub singles_part : (state : List ℕ) → length state ≡ 20 → singles_of state ≡ take 8 (drop 10 state)
+unfolding singles_of
+singles_part state long =
+    let rest = drop 10 state in
+    let left : length rest ≡ 10 = length-drop 10 state ∙ rw long in
+    let inside = λ (k : ℕ) (h : k < 8). take_more rest k 0 (omega arith) in
+    let at = λ (k : ℕ). get_or-drop 10 state k 0 in
+    rw (inside 7 (omega arith), inside 6 (omega arith), inside 5 (omega arith), inside 4 (omega arith), inside 3 (omega arith), inside 2 (omega arith), inside 1 (omega arith), inside 0 (omega arith), at 0, at 1, at 2, at 3, at 4, at 5, at 6, at 7)
+
+-- what a run tells, part by part as it is compared
+pub run_parts : (number : ℕ) (state area : List ℕ) → length state ≡ 20
+    → run_told number state area
+    ≡ numbers_from 17 (number ∷ get_or state 18 0 ∷ get_or state 19 0 ∷ [])
+    ++ (numbers_from 20 (take 10 state) ++ (numbers_from 42 (take 8 (drop 10 state)) ++ (Told.the_area 31 area ∷ [])))
+unfolding run_told
+run_parts number state area long =
+    rw (results_parts number state long, singles_part state long)
+    (append_assoc (numbers_from 17 (number ∷ get_or state 18 0 ∷ get_or state 19 0 ∷ [])) (numbers_from 20 (take 10 state)) _)

@@ -1,5 +1,5 @@
 -- From what the calls give to the finding of a case. Assumes nothing.
-use Rattle.std.proofs.Common.{◌≡◌, ℕ, ◌%◌, ◌^◌, ◌≤◌, true, false, List, [], ◌∷◌, ◌++◌, length, get_or, take, drop, refl, ◌∙◌, arith, length-take-le}
+use Rattle.std.proofs.Common.{◌≡◌, ℕ, ◌%◌, ◌^◌, ◌≤◌, true, false, List, [], ◌∷◌, length, get_or, take, refl, ◌∙◌, arith, length-take-le}
 use Rattle.run.specs.Steps.{fixed_to}
 use Rattle.sangolid.specs.Interface.{call_of, Calls, Checks, unfit, judged, Unhexes, unfit_answer}
 use Rattle.sangolid.specs.Interface.{unhexed as was_unhexed}
@@ -7,7 +7,7 @@ use Rattle.vector_text.specs.Hex.{value_of, bytes_of, padded}
 use Rattle.vector_text.specs.Fields.{field_of}
 use Rattle.vector_run.specs.declared.judging.Kind.{Kind}
 use Rattle.vector_run.specs.Cases.{number_of, state_before, area_fits, pad_to, code_of, area_of, constants_of}
-use Rattle.vector_run.specs.Findings.{Finding, Malformed, Told, first_other, numbers_from, results_of, singles_of, ran_told, answer_told, lent_finding, run_finding, CheckFinds, checked, HexFinds, unhexed, KindFinds, SizedFinds, no_code, no_area, sized}
+use Rattle.vector_run.specs.Findings.{Finding, Malformed, first_other, run_told, answer_told, lent_finding, run_finding, CheckFinds, checked, HexFinds, unhexed, KindFinds, SizedFinds, no_code, no_area, sized}
 
 -- an area filled from a field
 pub filled : (line : List ℕ) (k n : ℕ) {text after : List ℕ} → text ≡ field_of line k → after ≡ padded n (bytes_of text) → after ≡ pad_to line k n
@@ -15,13 +15,13 @@ unfolding pad_to
 filled line k n is fills = rw (← is) fills
 
 -- what the run's call gives, compared, is its finding
-pub lent_found : (line code d : List ℕ) (size : ℕ) {text constants state told before after : List ℕ} {n budget : ℕ} {r : Finding}
+pub lent_found : (line code d : List ℕ) (size : ℕ) {text constants state before after : List ℕ} {n budget : ℕ} {r : Finding}
     → text ≡ field_of line 33 → constants ≡ padded size (bytes_of text) → before ≡ state_before line → budget ≡ value_of (field_of line 12) % 2 ^ 64
-    → Calls (call_of before (fixed_to code constants) d budget) n state after → told ≡ results_of n state ++ singles_of state
-    → r ≡ first_other line (numbers_from 17 (take 13 told) ++ (numbers_from 42 (take 8 (drop 13 told)) ++ (Told.the_area 31 after ∷ []))) → r ≡ lent_finding line code (pad_to line 33 size) d
-unfolding lent_finding ran_told results_of singles_of number_of
-lent_found line code d size is fills start steps calls results found =
-    found ∙ rw (results, calls.is, calls.state_left, calls.area_left, start, steps, filled line 33 size is fills)
+    → Calls (call_of before (fixed_to code constants) d budget) n state after → r ≡ first_other line (run_told n state after)
+    → r ≡ lent_finding line code (pad_to line 33 size) d
+unfolding lent_finding number_of
+lent_found line code d size is fills start steps calls found =
+    found ∙ rw (calls.is, calls.state_left, calls.area_left, start, steps, filled line 33 size is fills)
 
 -- what the check's call gives, compared, is its finding
 pub check_found : {line code marks after answer : List ℕ} {n : ℕ} {r : Finding} → Checks code marks (0 ∷ []) n after answer

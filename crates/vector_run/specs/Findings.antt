@@ -69,10 +69,13 @@ unfoldable pub singles_of : List ℕ → List ℕ
 singles_of state = words_at state (10 ∷ 11 ∷ 12 ∷ 13 ∷ 14 ∷ 15 ∷ 16 ∷ 17 ∷ [])
 
 -- what a run tells: these numbers, then these singles, then the data after in field 31
-unfoldable pub ran_told : Call → List Told
-ran_told call =
-    numbers_from 17 (results_of call.number call.state)
-    ++ (numbers_from 42 (singles_of call.state) ++ (Told.the_area 31 call.area ∷ []))
+unfoldable pub run_told : ℕ → List ℕ → List ℕ → List Told
+run_told number state area =
+    numbers_from 17 (results_of number state) ++ (numbers_from 42 (singles_of state) ++ (Told.the_area 31 area ∷ []))
+
+-- the same of a call
+abbrev pub ran_told : Call → List Told
+ran_told call = run_told call.number call.state call.area
 
 -- what a check or a hex file tells: its number in field 17, the answer in field 19, the marks or the code area after in field 31
 unfoldable pub answer_told : ℕ → ℕ → List ℕ → List Told

@@ -1,8 +1,8 @@
 //! One case: it is run as its line says, and what comes out is compared with what its line says.
 
-ghost use Rattle.std.specs.Prelude.{◌≡◌, ◌+◌, ◌<◌, ◌≤◌, [], ◌∷◌, ◌++◌, length, take, drop, true, false, IfOk, IfErr};
+ghost use Rattle.std.specs.Prelude.{◌≡◌, ◌+◌, ◌<◌, ◌≤◌, [], ◌∷◌, length, true, false, IfOk, IfErr};
 ghost use Rattle.vector_run.specs.Cases.{number_of, state_before, area_fits, pad_to};
-ghost use Rattle.vector_run.specs.Findings.{Told, first_other, numbers_from, results_of, singles_of, answer_told, lent_finding, run_finding, CallFinds, KindFinds, SizedFinds, Finds};
+ghost use Rattle.vector_run.specs.Findings.{Told, first_other, numbers_from, run_told, answer_told, lent_finding, run_finding, CallFinds, KindFinds, SizedFinds, Finds};
 
 use crate::difference::Difference;
 use sangolid::{sangolid_check, sangolid_hex, sangolid_run};
@@ -45,17 +45,6 @@ fn state_before(line: &[u8]) -> [u32; 20]
     ]
 }
 
-/// What a run gives back, in the order of fields 17 to 29 and 42 to 49: the number, steps and address, and the machine, its singles last.
-fn results(number: u32, state: [u32; 20]) -> [u32; 21]
-    ensures { result ≡ results_of number state ++ singles_of state }
-{
-    [
-        number, state[18], state[19], state[0], state[1], state[2], state[3], state[4], state[5],
-        state[6], state[7], state[8], state[9], state[10], state[11], state[12], state[13],
-        state[14], state[15], state[16], state[17],
-    ]
-}
-
 /// Compares numbers with those of the line, from a first field on.
 fn compare_numbers(line: &[u8], told: &[u32], first: usize) -> Result<(), Difference>
     requires { first + length told.now ≤ 50 }
@@ -80,12 +69,14 @@ fn compare_area(line: &[u8], area: &[u8]) -> Result<(), Difference>
     }
 }
 
-/// Compares what a run gives back and the data after.
-fn compare_run(line: &[u8], told: [u32; 21], area: &[u8]) -> Result<(), Difference>
-    ensures { result ≡ first_other line.now (numbers_from 17 (take 13 told) ++ (numbers_from 42 (take 8 (drop 13 told)) ++ (Told.the_area 31 area.now ∷ []))) }
+/// Compares what a run gives back, its number and the state, and the data after: number, steps and address from field 17 on,
+/// registers, EIP and flags from field 20 on, the singles from field 42 on.
+fn compare_run(line: &[u8], number: u32, state: &[u32; 20], area: &[u8]) -> Result<(), Difference>
+    ensures { result ≡ first_other line.now (run_told number state.now area.now) }
 {
-    compare_numbers(line, &told[..13], 17)?;
-    compare_numbers(line, &told[13..], 42)?;
+    compare_numbers(line, &[number, state[18], state[19]], 17)?;
+    compare_numbers(line, &state[..10], 20)?;
+    compare_numbers(line, &state[10..18], 42)?;
     compare_area(line, area)
 }
 
@@ -110,7 +101,7 @@ fn judge_lent(
     fill(constants, field(line, 33));
     let mut state = state_before(line);
     let number = sangolid_run(&mut state, code, constants, area, number_64(line, 12));
-    compare_run(line, results(number, state), area)
+    compare_run(line, number, &state, area)
 }
 
 /// Judges a run, over constants as long as the line says.
@@ -150,7 +141,7 @@ fn judge_filled(line: &[u8], kind: Kind, code: &mut [u8], area: &mut [u8]) -> Re
     }
 }
 
-/// Room for an area of a line: some bytes more than a run or a check may have.
+/// Room for an area of a line: some bytes more than a run or a check may have. An array, since `judge` cannot fail and a `Vec` can.
 fn room() -> [u8; 65540]
     ensures { 65540 ≡ length result }
 {

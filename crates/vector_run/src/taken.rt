@@ -8,7 +8,7 @@ use crate::tally::Tally;
 #[derive(Drop)]
 pub struct Taken {
     pub tally: Tally,
-    /// Room for a line, and for one byte more to tell that it is too long.
+    /// Room for a line, and for one byte more to tell that it is too long. An array, since `judge_input` cannot fail and a `Vec` can.
     pub line: [u8; 1024],
     pub held: usize,
     ghost within: { held ≤ 1024 },

@@ -16,8 +16,8 @@ pub fn fits(text: &[u8], size: usize) -> bool
 pub fn fill(area: &mut [u8], text: &[u8])
     ensures { area.new ≡ padded (length area.old) (bytes_of text.now) }
 {
-    for i in 0..area.len() {
-        area[i] = byte_at(text, i);
+    for (i, byte) in area.iter_mut().enumerate() {
+        *byte = byte_at(text, i);
     }
 }
 
