@@ -38,7 +38,8 @@ fn tell(text: &[u8], code: &mut [u8], line: &mut Buffer) -> Option<usize>
             Some(size)
         }
         Err(refused) => {
-            line.refusal(refused.fault.number() as usize, refused.line);
+            let number = refused.fault.number() as usize;
+            line.refusal(number, refused.line);
             None
         }
     }
