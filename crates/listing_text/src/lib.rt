@@ -32,11 +32,13 @@ fn write_list(code: &[u8], marks: &mut [u8], out: &mut [u8], to: &impl Print)
 }
 
 /// The same by way of a buffer as long as the longest text.
+// A step between, since without it the check of `list_input` runs out of stack.
 fn write_whole(code: &[u8], marks: &mut [u8], out: &mut [u8; 786468], to: &impl Print) {
     write_list(code, marks, out, to);
 }
 
 /// Lists the code that is read: one byte more than a block may have is enough to refuse it. A write that fails is dropped, and a read that fails ends the input.
+// Fixed buffers: this cannot fail, as a `Vec` can, and `read_to_end` would read on after an interrupted read.
 pub fn list_input<R: Read>(from: &mut R, to: &impl Print) {
     let mut code = [0u8; 65537];
     let size = read_full(from, &mut code);

@@ -12,7 +12,11 @@ fn digit(d: u64) -> u8
     requires { d < 16 }
     ensures { result ≡ hex_digit d }
 {
-    if d < 10 { 48 + d as u8 } else { 55 + d as u8 }
+    if d < 10 {
+        b'0' + d as u8
+    } else {
+        b'A' + (d - 10) as u8
+    }
 }
 
 /// A lent area, and the place in it for the next byte. What does not fit is left out, so nothing here can fail.
@@ -63,6 +67,7 @@ impl<'a> Buffer<'a> {
     }
 
     /// Writes the last digits of a number in base 16, so many.
+    // Apart from `decimal`, which ends where the number does: one function for both would take both ends, and be no plainer.
     pub fn hex(&mut self, count: usize, n: u64)
         ensures { Adds self.old (hexadecimal count n) self.new }
     {

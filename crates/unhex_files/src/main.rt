@@ -12,7 +12,7 @@ fn opened<R: Files>(rt: &R, path: &[u8]) -> Option<R::File> {
     File::open(rt, name).ok()
 }
 
-/// Writes a file's name, as the bytes that it is and which may be no text, and what is found of it.
+/// Writes a file's name, and what is found of it.
 fn say_argument(rt: &(impl Files + Print), path: &[u8]) {
     rt.write_all(path).ok();
     rt.write_all(b"\t").ok();
@@ -25,6 +25,7 @@ fn say_argument(rt: &(impl Files + Print), path: &[u8]) {
 }
 
 fn main(rt: HostRuntime) {
+    // The bytes of each argument, which may be no text, and are printed as they are: `env::args` hands out text alone.
     let mut path = [0u8; 4096];
     for i in 1..usize::MAX {
         match rt.arg(i, &mut path) {

@@ -38,7 +38,8 @@ fn tell(text: &[u8], code: &mut [u8], line: &mut Buffer) -> Option<usize>
             Some(size)
         }
         Err(refused) => {
-            line.refusal(refused.fault.number() as usize, refused.line);
+            let number = refused.fault.number() as usize;
+            line.refusal(number, refused.line);
             None
         }
     }
@@ -66,6 +67,7 @@ fn answer_by<R: Read>(from: &mut R, text: &mut [u8], code: &mut [u8], line: &mut
 }
 
 /// The same by way of a buffer with one byte more than a file may have: that is enough to refuse it.
+// A step between, since without it the check of `answer` runs out of stack.
 fn answer_whole<R: Read>(
     from: &mut R,
     text: &mut [u8; 1048577],
@@ -78,7 +80,8 @@ fn answer_whole<R: Read>(
     answer_by(from, text, code, line)
 }
 
-/// Reads a file, and answers it. The read ends where one fails, and no memory is asked for that could run out.
+/// Reads a file, and answers it.
+// A fixed buffer: the functions over this cannot fail, as a `Vec` can, and `read_to_end` would read on after an interrupted read.
 fn answer<R: Read>(from: &mut R, code: &mut [u8], line: &mut [u8]) -> Ends
     ensures code { IfSome result.code (λ size. size ≤ length code.new) }
     ensures line { result.line ≤ length line.new }

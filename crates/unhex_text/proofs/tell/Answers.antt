@@ -18,7 +18,7 @@ returns-in-Err c =
     record {
       line = _;
       told =
-          told_refused c.if-text-gt1048576.false (omega (arith, c.number.ensures, refusal_numbers c.in-Err.refused.fault))
-          (rw (c.in-Err.is, ← c.number.ensures) at c.read.ensures);
+          told_refused c.if-text-gt1048576.false (omega (arith, c.number-number.ensures, refusal_numbers c.in-Err.refused.fault))
+          (rw (c.in-Err.is, ← c.number-number.ensures) at c.read.ensures);
       adds = c.refusal.ensures;
     }
