@@ -4,13 +4,13 @@ pub mod Spelling
 pub mod Places
 pub mod Forms
 pub mod Lining
-pub mod Passing
 pub mod Adding
 pub mod Giving
 pub mod Faults
 pub mod Picture
 pub mod Knowing
 pub mod Judgements
+pub mod Passing
 pub mod Concluding
 pub mod Outcomes
 pub mod Spelt
