@@ -150,6 +150,7 @@ fn even(n: u32, f: Flags) -> bool
     }
 }
 
+// A condition stays a number, the last four bits of its opcode: an enum of sixteen would be made of it and then taken apart again.
 /// Do the flags meet the condition with this number?
 pub fn meets(n: u32, f: Flags) -> bool
     ensures { result ≡ meets n f }

@@ -46,6 +46,7 @@ fn of_bits_and_carry(w: Size, k: u32) -> u32
     k % (w.bits() + 1)
 }
 
+// That a number is one of its size stays a clause: the definitions take the size and the number apart, so a struct of both would lengthen each contract.
 /// A number of b bits, turned right by k: its low k bits go to the top.
 fn turned_right(b: u32, k: u32, x: u64) -> u64
     requires b_bound { b ≤ 33 }
