@@ -9,6 +9,7 @@ use Rattle.plan.specs.declared.Plan.{Plan}
 use Rattle.effect.specs.All.{address_by, reads_by, effect_by}
 use Rattle.effect.specs.Outcomes.{Effect, Reads, Nothing, One, Two}
 use Rattle.effect.specs.Performing.{Moved, next, stop, committed}
+use Rattle.machine.specs.declared.memory.Memory.{Memory}
 use Rattle.machine.specs.declared.memory.Outside.{Outside}
 use Rattle.effect.specs.declared.stop.Stop.{Stop}
 use Rattle.effect.specs.Stops.{number_of, address_of}
@@ -48,6 +49,15 @@ done e m d = committed e.outcome e m d
 unfoldable pub did : Got → (ℕ → ℕ → Effect) → Machine → List ℕ → Moved
 did (got r s) of m d = done (of r s) m d
 did (astray b) of m d = stop 5 b
+
+-- the reads and then the effect of what was read are done, in place
+abbrev pub Performs : {A : Type 0} → Reads → (ℕ → ℕ → Effect) → Machine → Memory → Result A Stop → Machine → Memory → Type 0
+Performs reads of old before result new after =
+    Does (did (got_of before.constants.now before.area.now reads) of old before.area.now) old before.area.now result new after.area.now
+
+-- an effect alone is done, in place
+abbrev pub Commits : {A : Type 0} → Effect → Machine → Memory → Result A Stop → Machine → Memory → Type 0
+Commits e old before result new after = Does (done e old before.area.now) old before.area.now result new after.area.now
 
 -- what a fetch answers
 abbrev pub got_as : Result ℕ Outside → Got

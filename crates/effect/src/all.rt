@@ -1,6 +1,7 @@
 //! One step of a plan.
 ghost use Rattle.std.specs.Prelude.{◌≡◌};
 ghost use Rattle.effect.specs.Performing.{planned};
+ghost use Rattle.machine.specs.Answers.{SameAreas};
 ghost use Rattle.effect.specs.Does.{Does};
 
 use crate::arithmetic;
@@ -20,8 +21,7 @@ use sense::Operation;
 #[tactic(auto, using(crate::proofs::Executed::planned_is, crate::proofs::Assign::done_becomes), unfolding(crate::specs::Does::executed_of, crate::specs::Does::did, crate::specs::Does::got_of, crate::specs::Rounds::string_of, crate::specs::All::address_by, crate::specs::All::reads_by, crate::specs::All::effect_by))]
 pub fn execute(m: &mut Machine, p: &Plan, memory: &mut Memory) -> Result<(), Stop>
     ensures does { Does (planned memory.old.constants.now p.now m.old memory.old.area.now) m.old memory.old.area.now result m.new memory.new.area.now }
-    ensures constants { memory.new.constants.now ≡ memory.old.constants.now }
-    ensures same_area { memory.new.area.ghost_name ≡ memory.old.area.ghost_name }
+    ensures same_areas { SameAreas memory.old memory.new }
 {
     let a = plan::effective_address(m, p.address);
     match p.operation {

@@ -4,7 +4,8 @@ ghost use Rattle.machine.specs.Registers.{with_flags};
 ghost use Rattle.effect.specs.Arithmetic as Op;
 ghost use Rattle.effect.specs.Bits as Bit;
 ghost use Rattle.effect.specs.Words as W;
-ghost use Rattle.effect.specs.Does.{Does, got_of, got_as, done, did};
+ghost use Rattle.machine.specs.Answers.{SameAreas};
+ghost use Rattle.effect.specs.Does.{Performs, Commits, got_of, got_as};
 ghost use Rattle.effect.specs.Reckoned.{reckoned_as, settled_by, Comes};
 
 use crate::stop::Stop;
@@ -13,7 +14,7 @@ use arith::{Binary, Single};
 use bits::{BitTest, DoubleShift, Scan};
 use flags::Word;
 use machine::memory::{Memory, Outside};
-use machine::registers::{EAX, EDX, Machine};
+use machine::registers::{AH, EAX, EDX, Machine};
 use plan::{Operand, Plan};
 use product::Division;
 use sense::{Arithmetic, Bits};
@@ -169,9 +170,8 @@ fn bits_computed(op: Bits, w: Size, d: u32, s: u32, count: u32, f: &Word) -> Rec
 #[inline(always)]
 #[tactic(auto, using(crate::proofs::Assign::done_assign, crate::proofs::Assign::done_becomes), unfolding(crate::specs::Reckoned::settled_by, crate::specs::Reckoned::settled_with, crate::specs::Words::onward))]
 fn settle(m: &mut Machine, p: &Plan, a: u32, c: Reckoned, memory: &mut Memory) -> Result<(), Stop>
-    ensures does { Does (done (settled_by c m.old p.now a) m.old memory.old.area.now) m.old memory.old.area.now result m.new memory.new.area.now }
-    ensures constants { memory.new.constants.now ≡ memory.old.constants.now }
-    ensures same_area { memory.new.area.ghost_name ≡ memory.old.area.ghost_name }
+    ensures does { Commits (settled_by c m.old p.now a) m.old memory.old result m.new memory.new }
+    ensures same_areas { SameAreas memory.old memory.new }
 {
     if let Some(v) = c.value {
         write(p.destination, p.size, a, v, memory).map_err(Stop::Write)?;
@@ -192,7 +192,7 @@ fn upper(w: Size) -> u32
     ensures { result ≡ Op.upper w }
 {
     match w {
-        Size::Byte => 4,
+        Size::Byte => AH,
         Size::Word | Size::Dword => EDX,
     }
 }
@@ -302,9 +302,8 @@ pub fn arithmetic(
     a: u32,
     memory: &mut Memory,
 ) -> Result<(), Stop>
-    ensures does { Does (did (got_of memory.old.constants.now memory.old.area.now (Op.arithmetic_reads p.now a)) (λ r s. Op.arithmetic_effect op m.old p.now a r) m.old memory.old.area.now) m.old memory.old.area.now result m.new memory.new.area.now }
-    ensures constants { memory.new.constants.now ≡ memory.old.constants.now }
-    ensures same_area { memory.new.area.ghost_name ≡ memory.old.area.ghost_name }
+    ensures does { Performs (Op.arithmetic_reads p.now a) (λ r s. Op.arithmetic_effect op m.old p.now a r) m.old memory.old result m.new memory.new }
+    ensures same_areas { SameAreas memory.old memory.new }
 {
     let w = p.size;
     let r = fetch(p, a, memory).map_err(Stop::Read)?;

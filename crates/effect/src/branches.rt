@@ -3,7 +3,7 @@ ghost use Rattle.std.specs.Prelude.{◌≡◌, not, ◌&&◌, ◌==◌, if◌the
 ghost use Rattle.machine.specs.Registers.{with_eip};
 ghost use Rattle.effect.specs.Branches as B;
 ghost use Rattle.effect.specs.Words as W;
-ghost use Rattle.effect.specs.Does.{Does, got_of, did};
+ghost use Rattle.effect.specs.Does.{Performs};
 
 use crate::stop::Stop;
 use crate::words::{fetch, value};
@@ -43,7 +43,7 @@ fn looped(m: &mut Machine, holds: bool, p: &Plan)
 /// What the operation does; a is the effective address.
 #[tactic(auto, unfolding(crate::specs::Does::did, crate::specs::Does::done, crate::specs::Does::got_of, crate::specs::Branches::branch_reads, crate::specs::Branches::branch_effect, crate::specs::Words::becomes, crate::specs::Performing::committed))]
 pub fn branch(m: &mut Machine, op: Branch, p: &Plan, a: u32, memory: &Memory) -> Result<(), Stop>
-    ensures { Does (did (got_of memory.now.constants.now memory.now.area.now (B.branch_reads op p.now a)) (λ r s. B.branch_effect op m.old p.now r) m.old memory.now.area.now) m.old memory.now.area.now result m.new memory.now.area.now }
+    ensures { Performs (B.branch_reads op p.now a) (λ r s. B.branch_effect op m.old p.now r) m.old memory.now result m.new memory.now }
 {
     match op {
         Branch::Jump => m.set_eip(p.target),

@@ -3,13 +3,14 @@ ghost use Rattle.std.specs.Prelude.{◌≡◌};
 ghost use Rattle.effect.specs.Moves as M;
 ghost use Rattle.effect.specs.Words as W;
 ghost use Rattle.machine.specs.Registers.{with_eip};
-ghost use Rattle.effect.specs.Does.{Does, got_of, done, did};
+ghost use Rattle.machine.specs.Answers.{SameAreas};
+ghost use Rattle.effect.specs.Does.{Performs, Commits};
 
 use crate::stop::Stop;
 use crate::words::{assign, fetch, value, write};
 use flags::{Flags, Word};
 use machine::memory::Memory;
-use machine::registers::{EAX, EDX, Machine};
+use machine::registers::{AH, EAX, EDX, Machine};
 use plan::Plan;
 use sense::{Flagging, Move};
 use width::Size;
@@ -56,9 +57,8 @@ fn smaller(w: Size) -> Size
 #[inline(always)]
 #[tactic(auto, using(crate::proofs::Assign::done_assign), unfolding(crate::specs::Words::onward))]
 fn given(m: &mut Machine, p: &Plan, a: u32, v: u32, memory: &mut Memory) -> Result<(), Stop>
-    ensures does { Does (done (W.assign p.now.destination a (W.onward m.old p.now) p.now.size v) m.old memory.old.area.now) m.old memory.old.area.now result m.new memory.new.area.now }
-    ensures constants { memory.new.constants.now ≡ memory.old.constants.now }
-    ensures same_area { memory.new.area.ghost_name ≡ memory.old.area.ghost_name }
+    ensures does { Commits (W.assign p.now.destination a (W.onward m.old p.now) p.now.size v) m.old memory.old result m.new memory.new }
+    ensures same_areas { SameAreas memory.old memory.new }
 {
     write(p.destination, p.size, a, v, memory).map_err(Stop::Write)?;
     m.set_eip(p.next);
@@ -82,9 +82,8 @@ fn chosen(m: &Machine, n: u32, p: &Plan, r: u32) -> u32
 /// What the operation does; a is the effective address.
 #[tactic(auto, using(crate::proofs::Assign::done_assign, crate::proofs::Assign::done_becomes), unfolding(crate::specs::Does::did, crate::specs::Does::got_of, crate::specs::Moves::move_reads, crate::specs::Moves::move_effect, crate::specs::Moves::exchanged, crate::specs::Words::onward))]
 pub fn moves(m: &mut Machine, op: Move, p: &Plan, a: u32, memory: &mut Memory) -> Result<(), Stop>
-    ensures does { Does (did (got_of memory.old.constants.now memory.old.area.now (M.move_reads op p.now a)) (λ r s. M.move_effect op m.old p.now a r) m.old memory.old.area.now) m.old memory.old.area.now result m.new memory.new.area.now }
-    ensures constants { memory.new.constants.now ≡ memory.old.constants.now }
-    ensures same_area { memory.new.area.ghost_name ≡ memory.old.area.ghost_name }
+    ensures does { Performs (M.move_reads op p.now a) (λ r s. M.move_effect op m.old p.now a r) m.old memory.old result m.new memory.new }
+    ensures same_areas { SameAreas memory.old memory.new }
 {
     let w = p.size;
     match op {
@@ -139,11 +138,11 @@ pub fn moves(m: &mut Machine, op: Move, p: &Plan, a: u32, memory: &mut Memory) -
         Move::Lahf => {
             let v = flags::ah(m.flags().unpack());
             m.set_eip(p.next);
-            m.set_part(Size::Byte, 4, v);
+            m.set_part(Size::Byte, AH, v);
             Ok(())
         }
         Move::Sahf => {
-            let f = flags::with_ah(m.part(Size::Byte, 4), m.flags().unpack());
+            let f = flags::with_ah(m.part(Size::Byte, AH), m.flags().unpack());
             m.set_eip(p.next);
             m.set_flags(Word::pack(f));
             Ok(())

@@ -2,7 +2,8 @@
 ghost use Rattle.std.specs.Prelude.{◌≡◌};
 ghost use Rattle.effect.specs.Singles as S;
 ghost use Rattle.effect.specs.Words as W;
-ghost use Rattle.effect.specs.Does.{Does, got_of, done, did};
+ghost use Rattle.machine.specs.Answers.{SameAreas};
+ghost use Rattle.effect.specs.Does.{Performs, Commits};
 
 use crate::stop::Stop;
 use crate::words::{fetch, write};
@@ -29,9 +30,8 @@ fn value(m: &Machine, o: Operand, r: u32) -> u32
 /// v assigned to the destination, and on.
 #[tactic(auto, unfolding(crate::specs::Does::done, crate::specs::Does::wrote, crate::specs::Does::written, crate::specs::Singles::assign_single, crate::specs::Words::onward, crate::specs::Words::writes, crate::specs::Words::sets, crate::specs::Words::becomes, crate::specs::Performing::committed, crate::specs::Performing::stored))]
 fn given(m: &mut Machine, p: &Plan, a: u32, v: u32, memory: &mut Memory) -> Result<(), Stop>
-    ensures does { Does (done (S.assign_single p.now.destination a (W.onward m.old p.now) v) m.old memory.old.area.now) m.old memory.old.area.now result m.new memory.new.area.now }
-    ensures constants { memory.new.constants.now ≡ memory.old.constants.now }
-    ensures same_area { memory.new.area.ghost_name ≡ memory.old.area.ghost_name }
+    ensures does { Commits (S.assign_single p.now.destination a (W.onward m.old p.now) v) m.old memory.old result m.new memory.new }
+    ensures same_areas { SameAreas memory.old memory.new }
 {
     match p.destination {
         Operand::Register(i) => {
@@ -50,9 +50,8 @@ fn given(m: &mut Machine, p: &Plan, a: u32, v: u32, memory: &mut Memory) -> Resu
 /// MOVSS.
 #[tactic(auto, unfolding(crate::specs::Does::did, crate::specs::Singles::single_reads, crate::specs::Singles::single_moved))]
 pub fn move_single(m: &mut Machine, p: &Plan, a: u32, memory: &mut Memory) -> Result<(), Stop>
-    ensures does { Does (did (got_of memory.old.constants.now memory.old.area.now (S.single_reads p.now a)) (λ r s. S.single_moved m.old p.now a r) m.old memory.old.area.now) m.old memory.old.area.now result m.new memory.new.area.now }
-    ensures constants { memory.new.constants.now ≡ memory.old.constants.now }
-    ensures same_area { memory.new.area.ghost_name ≡ memory.old.area.ghost_name }
+    ensures does { Performs (S.single_reads p.now a) (λ r s. S.single_moved m.old p.now a r) m.old memory.old result m.new memory.new }
+    ensures same_areas { SameAreas memory.old memory.new }
 {
     let r = fetch(p.source, Size::Dword, a, memory).map_err(Stop::Read)?;
     given(m, p, a, value(m, p.source, r), memory)
@@ -67,9 +66,8 @@ pub fn compute_single(
     a: u32,
     memory: &mut Memory,
 ) -> Result<(), Stop>
-    ensures does { Does (did (got_of memory.old.constants.now memory.old.area.now (S.single_reads p.now a)) (λ r s. S.single_computed op m.old p.now a r) m.old memory.old.area.now) m.old memory.old.area.now result m.new memory.new.area.now }
-    ensures constants { memory.new.constants.now ≡ memory.old.constants.now }
-    ensures same_area { memory.new.area.ghost_name ≡ memory.old.area.ghost_name }
+    ensures does { Performs (S.single_reads p.now a) (λ r s. S.single_computed op m.old p.now a r) m.old memory.old result m.new memory.new }
+    ensures same_areas { SameAreas memory.old memory.new }
 {
     let r = fetch(p.source, Size::Dword, a, memory).map_err(Stop::Read)?;
     let x = value(m, p.destination, r);
@@ -80,7 +78,7 @@ pub fn compute_single(
 /// COMISS.
 #[tactic(auto, using(crate::proofs::Assign::done_becomes), unfolding(crate::specs::Does::did, crate::specs::Singles::single_reads, crate::specs::Singles::single_compared, crate::specs::Words::onward))]
 pub fn compare_single(m: &mut Machine, p: &Plan, a: u32, memory: &Memory) -> Result<(), Stop>
-    ensures { Does (did (got_of memory.now.constants.now memory.now.area.now (S.single_reads p.now a)) (λ r s. S.single_compared m.old p.now r) m.old memory.now.area.now) m.old memory.now.area.now result m.new memory.now.area.now }
+    ensures { Performs (S.single_reads p.now a) (λ r s. S.single_compared m.old p.now r) m.old memory.now result m.new memory.now }
 {
     let r = fetch(p.source, Size::Dword, a, memory).map_err(Stop::Read)?;
     let x = value(m, p.destination, r);

@@ -4,7 +4,8 @@ ghost use Rattle.width.specs.Numbers.{rest};
 ghost use Rattle.machine.specs.Registers.{with_eip};
 ghost use Rattle.effect.specs.Stacks as S;
 ghost use Rattle.effect.specs.Words as W;
-ghost use Rattle.effect.specs.Does.{Does, got_of, done, did};
+ghost use Rattle.machine.specs.Answers.{SameAreas};
+ghost use Rattle.effect.specs.Does.{Performs, Commits};
 
 use crate::stop::Stop;
 use crate::words::{assign, fetch, value, write};
@@ -27,7 +28,7 @@ fn above(m: &Machine, i: u32, n: u32) -> u32
 #[inline(always)]
 #[tactic(auto, unfolding(crate::specs::Stacks::above, width::specs::Numbers::rest, width::specs::Numbers::residue, width::specs::Sizes::modulus, width::specs::Sizes::bits))]
 fn released(m: &Machine, n: u32) -> u32
-    ensures { result ≡ S.above m.now 4 (4 + n) }
+    ensures { result ≡ S.above m.now S.esp (4 + n) }
 {
     m.register(ESP).wrapping_add(4).wrapping_add(n)
 }
@@ -45,9 +46,8 @@ fn below(m: &Machine) -> u32
 #[inline(always)]
 #[tactic(auto, unfolding(crate::specs::Does::done, crate::specs::Stacks::pushed, crate::specs::Stacks::below, machine::specs::Registers::register, machine::specs::Registers::with_register, machine::specs::Registers::with_eip, crate::specs::Words::writes, crate::specs::Performing::committed, crate::specs::Performing::stored))]
 fn push(m: &mut Machine, v: u32, next: u32, memory: &mut Memory) -> Result<(), Stop>
-    ensures does { Does (done (S.pushed (with_eip m.old next) v) m.old memory.old.area.now) m.old memory.old.area.now result m.new memory.new.area.now }
-    ensures constants { memory.new.constants.now ≡ memory.old.constants.now }
-    ensures same_area { memory.new.area.ghost_name ≡ memory.old.area.ghost_name }
+    ensures does { Commits (S.pushed (with_eip m.old next) v) m.old memory.old result m.new memory.new }
+    ensures same_areas { SameAreas memory.old memory.new }
 {
     let top = below(m);
     memory.store(Size::Dword, top, v).map_err(Stop::Write)?;
@@ -59,9 +59,8 @@ fn push(m: &mut Machine, v: u32, next: u32, memory: &mut Memory) -> Result<(), S
 /// What the operation does; a is the effective address.
 #[tactic(auto, using(crate::proofs::Assign::done_assign, crate::proofs::Assign::done_becomes), unfolding(crate::specs::Does::did, crate::specs::Does::got_of, crate::specs::Stacks::stack_reads, crate::specs::Stacks::stack_effect, crate::specs::Words::onward))]
 pub fn stack(m: &mut Machine, op: Stack, p: &Plan, a: u32, memory: &mut Memory) -> Result<(), Stop>
-    ensures does { Does (did (got_of memory.old.constants.now memory.old.area.now (S.stack_reads op m.old p.now a)) (λ r s. S.stack_effect op m.old p.now a r) m.old memory.old.area.now) m.old memory.old.area.now result m.new memory.new.area.now }
-    ensures constants { memory.new.constants.now ≡ memory.old.constants.now }
-    ensures same_area { memory.new.area.ghost_name ≡ memory.old.area.ghost_name }
+    ensures does { Performs (S.stack_reads op m.old p.now a) (λ r s. S.stack_effect op m.old p.now a r) m.old memory.old result m.new memory.new }
+    ensures same_areas { SameAreas memory.old memory.new }
 {
     let w = p.size;
     match op {

@@ -2,6 +2,7 @@
 ghost use Rattle.std.specs.Prelude.{◌≡◌, ◌&&◌, ◌||◌, ◌==◌};
 ghost use Rattle.effect.specs.Strings as S;
 ghost use Rattle.effect.specs.Branches as B;
+ghost use Rattle.machine.specs.Answers.{SameAreas};
 ghost use Rattle.effect.specs.Does.{Does};
 ghost use Rattle.effect.specs.Rounds.{after, round_of, string_of};
 
@@ -21,11 +22,7 @@ use width::Size;
 fn pass(m: &mut Machine, w: Size, i: u32)
     ensures { m.new ≡ S.passed m.old w i }
 {
-    let size = match w {
-        Size::Byte => 1,
-        Size::Word => 2,
-        Size::Dword => 4,
-    };
+    let size = width::bytes(w) as u32;
     let a = m.register(i);
     let on = if m.flags().unpack().df {
         a.wrapping_sub(size)
@@ -39,8 +36,7 @@ fn pass(m: &mut Machine, w: Size, i: u32)
 #[tactic(auto, using(crate::proofs::Assign::done_becomes), unfolding(crate::specs::Rounds::round_of, crate::specs::Does::did, crate::specs::Does::done, crate::specs::Does::got_of, crate::specs::Strings::round_reads, crate::specs::Strings::round, crate::specs::Words::writes, crate::specs::Words::becomes, crate::specs::Performing::committed, crate::specs::Performing::stored))]
 fn round(m: &mut Machine, op: Strings, w: Size, memory: &mut Memory) -> Result<(), Stop>
     ensures does { Does (round_of memory.old.constants.now memory.old.area.now op m.old w) m.old memory.old.area.now result m.new memory.new.area.now }
-    ensures constants { memory.new.constants.now ≡ memory.old.constants.now }
-    ensures same_area { memory.new.area.ghost_name ≡ memory.old.area.ghost_name }
+    ensures same_areas { SameAreas memory.old memory.new }
 {
     let from = m.register(ESI);
     let to = m.register(EDI);
@@ -83,10 +79,7 @@ fn round(m: &mut Machine, op: Strings, w: Size, memory: &mut Memory) -> Result<(
 fn over(again: Repeat, op: Strings, left: u32, zf: bool) -> bool
     ensures { result ≡ S.over again op left zf }
 {
-    let compares = match op {
-        Strings::Movs | Strings::Stos | Strings::Lods => false,
-        Strings::Cmps | Strings::Scas => true,
-    };
+    let compares = matches!(op, Strings::Cmps | Strings::Scas);
     match again {
         Repeat::Absent => true,
         Repeat::F2 => left == 0 || compares && zf,
@@ -100,10 +93,7 @@ fn over(again: Repeat, op: Strings, left: u32, zf: bool) -> bool
 fn idle(m: &Machine, again: Repeat) -> bool
     ensures { result ≡ S.idle again m.now }
 {
-    match again {
-        Repeat::Absent => false,
-        Repeat::F2 | Repeat::F3 => m.register(ECX) == 0,
-    }
+    matches!(again, Repeat::F2 | Repeat::F3) && m.register(ECX) == 0
 }
 
 /// After a round: on; of a repetition ECX less 1, and on where it is over.
@@ -127,8 +117,7 @@ fn end_round(m: &mut Machine, op: Strings, p: &Plan)
 #[tactic(auto, using(crate::proofs::Rounds::idles, crate::proofs::Rounds::rounds), unfolding(crate::specs::Words::onward))]
 pub fn string(m: &mut Machine, op: Strings, p: &Plan, memory: &mut Memory) -> Result<(), Stop>
     ensures does { Does (string_of memory.old.constants.now memory.old.area.now op m.old p.now) m.old memory.old.area.now result m.new memory.new.area.now }
-    ensures constants { memory.new.constants.now ≡ memory.old.constants.now }
-    ensures same_area { memory.new.area.ghost_name ≡ memory.old.area.ghost_name }
+    ensures same_areas { SameAreas memory.old memory.new }
 {
     if idle(m, p.repeat) {
         m.set_eip(p.next);

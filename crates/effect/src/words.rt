@@ -1,7 +1,7 @@
 //! The words that instructions are written in: an operand fetched, its value, assigning.
 ghost use Rattle.std.specs.Prelude.{◌≡◌, OnErr};
 ghost use Rattle.effect.specs.Words as W;
-ghost use Rattle.machine.specs.Answers.{stored_as};
+ghost use Rattle.machine.specs.Answers.{stored_as, SameAreas};
 ghost use Rattle.effect.specs.Does.{got_of, got_as, wrote, written};
 
 use machine::memory::{Memory, Outside};
@@ -41,8 +41,7 @@ pub fn write(o: Operand, w: Size, a: u32, v: u32, memory: &mut Memory) -> Result
     ensures answer { wrote o memory.old.area.now w a ≡ stored_as result }
     ensures data { memory.new.area.now ≡ written o memory.old.area.now w a v }
     ensures err { OnErr result (memory.new.area.now ≡ memory.old.area.now) }
-    ensures constants { memory.new.constants.now ≡ memory.old.constants.now }
-    ensures same_area { memory.new.area.ghost_name ≡ memory.old.area.ghost_name }
+    ensures same_areas { SameAreas memory.old memory.new }
 {
     match o {
         Operand::Memory => memory.store(w, a, v),

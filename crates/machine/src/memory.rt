@@ -4,7 +4,7 @@ ghost use Rattle.std.proofs.lemmas.List.Edits.{sets};
 ghost use Rattle.width.specs.Sizes.{bytes};
 ghost use Rattle.width.specs.LittleEndian.{little_endian, bytes_of};
 ghost use Rattle.machine.specs.Memory.{place_of, first_outside, first_unread, read_of, load_of, stored_of, store_of};
-ghost use Rattle.machine.specs.Answers.{shown, loaded_as, stored_as};
+ghost use Rattle.machine.specs.Answers.{shown, loaded_as, stored_as, SameAreas};
 
 use width::Size;
 
@@ -40,7 +40,7 @@ fn first_outside(base: u32, len: usize, a: u32) -> u32
     ensures { result ≡ first_outside base len a }
 {
     match locate(base, len, 1, a) {
-        Some(_) => ((base as u64 + len as u64 % 0x1_0000_0000) % 0x1_0000_0000) as u32,
+        Some(_) => base.wrapping_add((len % 0x1_0000_0000) as u32),
         None => a,
     }
 }
@@ -54,12 +54,8 @@ fn number(part: &[u8], w: Size) -> u32
 {
     match w {
         Size::Byte => u32::from(part[0]),
-        Size::Word => u32::from(part[0]) + 0x100 * u32::from(part[1]),
-        Size::Dword => {
-            u32::from(part[0])
-                + 0x100 * u32::from(part[1])
-                + 0x1_0000 * (u32::from(part[2]) + 0x100 * u32::from(part[3]))
-        }
+        Size::Word => u32::from(u16::from_le_bytes([part[0], part[1]])),
+        Size::Dword => u32::from_le_bytes([part[0], part[1], part[2], part[3]]),
     }
 }
 
@@ -139,8 +135,7 @@ impl<'a> Memory<'a> {
         ensures answer { stored_of self.old.area.now w a ≡ stored_as result }
         ensures data { self.new.area.now ≡ store_of self.old.area.now w a v }
         ensures err { OnErr result (self.new.area.now ≡ self.old.area.now) }
-        ensures constants { self.new.constants.now ≡ self.old.constants.now }
-        ensures same_area { self.new.area.ghost_name ≡ self.old.area.ghost_name }
+        ensures same_areas { SameAreas self.old self.new }
     {
         let Some(at) = locate(DATA, self.area.len(), width::bytes(w), a) else {
             return Err(Outside {

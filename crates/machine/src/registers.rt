@@ -20,7 +20,7 @@ use flags::Word;
 use scalar::Xmm;
 use width::Size;
 
-/// The registers by their numbers.
+// The numbers of the registers, and of AH among the bytes AL CL DL BL AH CH DH BH.
 pub const EAX: u32 = 0;
 
 pub const ECX: u32 = 1;
@@ -36,6 +36,8 @@ pub const EBP: u32 = 5;
 pub const ESI: u32 = 6;
 
 pub const EDI: u32 = 7;
+
+pub const AH: u32 = 4;
 
 /// The machine. In clauses its flags are `Flags`.
 #[derive(Drop)]

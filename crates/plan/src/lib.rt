@@ -1,4 +1,4 @@
-// The plan of a step: which operation, at which size, on which operands, and where it goes on.
+//! The plan of a step: which operation, at which size, on which operands, and where it goes on.
 #![tactic(auto)]
 
 ghost use Rattle.std.specs.Prelude.{◌≡◌, ◌^◌, ◌<◌};
@@ -11,7 +11,7 @@ use machine::registers::Machine;
 use sense::{Operation, Place, Sense};
 use width::Size;
 
-// An operand: a part of a register, the memory at the effective address, or a number.
+/// An operand: a part of a register, the memory at the effective address, or a number.
 #[derive(Clone, Copy)]
 pub enum Operand {
     Register(u32),
@@ -19,7 +19,7 @@ pub enum Operand {
     Number(u32),
 }
 
-// What an effective address is computed from.
+/// What an effective address is computed from.
 #[derive(Clone, Copy)]
 pub struct Address {
     pub modrm: u8,
@@ -27,7 +27,7 @@ pub struct Address {
     pub displacement: u32,
 }
 
-// What one step does, of its instruction and place alone.
+/// What one step does, of its instruction and place alone.
 #[derive(Clone, Copy)]
 pub struct Plan {
     pub operation: Operation,
@@ -36,11 +36,11 @@ pub struct Plan {
     pub source: Operand,
     pub other: Operand,
     pub repeat: Repeat,
-    // The address of the next instruction.
+    /// The address of the next instruction.
     pub next: u32,
-    // The address that a displacement leads to.
+    /// The address that a displacement leads to.
     pub target: u32,
-    // Where the operand in memory is.
+    /// Where the operand in memory is.
     pub address: Address,
 }
 
@@ -89,17 +89,20 @@ pub fn effective_address(m: &Machine, a: Address) -> u32
     width::low(Size::Dword, base + a.displacement as u64)
 }
 
-// Bytes; else words under 66, and doublewords without.
+/// Bytes; else words under 66, and doublewords without.
+#[tactic(auto, unfolding(crate::specs::Plans::size_of))]
 pub fn size_of(byte: bool, narrow: bool) -> Size
     ensures { result ≡ size_of byte narrow }
 {
-    if byte {
-        return Size::Byte;
+    match (byte, narrow) {
+        (true, _) => Size::Byte,
+        (false, true) => Size::Word,
+        (false, false) => Size::Dword,
     }
-    if narrow { Size::Word } else { Size::Dword }
 }
 
-// The operand at a place.
+/// The operand at a place.
+#[tactic(auto, unfolding(crate::specs::Plans::operand_of))]
 pub fn operand_at(place: Place, d: Decoded, w: Size) -> Operand
     ensures { result ≡ operand_of place d w }
 {
@@ -123,7 +126,8 @@ pub fn operand_at(place: Place, d: Decoded, w: Size) -> Operand
     }
 }
 
-// The immediate as a displacement alone: Mod 0 and R/M 5.
+/// The immediate as a displacement alone: Mod 0 and R/M 5.
+#[tactic(auto, unfolding(crate::specs::Plans::offset_alone))]
 fn offset_alone(immediate: u32) -> Address
     ensures { result ≡ offset_alone immediate }
 {
@@ -134,34 +138,20 @@ fn offset_alone(immediate: u32) -> Address
     }
 }
 
-// Whether a place is memory at an offset, the immediate.
+/// Whether a place is memory at an offset, the immediate.
+#[tactic(auto, unfolding(crate::specs::Plans::is_offset))]
 fn is_offset(place: Place) -> bool
     ensures { result ≡ is_offset place }
 {
-    match place {
-        Place::Absent
-        | Place::Rm
-        | Place::Reg
-        | Place::Accumulator
-        | Place::OpcodeRegister
-        | Place::Immediate
-        | Place::SignedImmediate
-        | Place::One
-        | Place::Cl => false,
-        Place::Offset => true,
-    }
+    matches!(place, Place::Offset)
 }
 
-// What the effective address is computed from: the offset alone, as a displacement; else the instruction's ModR/M, SIB and displacement.
+/// What the effective address is computed from: the offset alone, as a displacement; else the instruction's ModR/M, SIB and displacement.
+#[tactic(auto, unfolding(crate::specs::Plans::address_in))]
 fn address_in(s: Sense, d: Decoded) -> Address
     ensures { result ≡ address_in s d }
 {
-    let destination = s.destination;
-    let source = s.source;
-    if is_offset(destination) {
-        return offset_alone(d.immediate);
-    }
-    if is_offset(source) {
+    if is_offset(s.destination) || is_offset(s.source) {
         return offset_alone(d.immediate);
     }
     Address {
@@ -171,7 +161,8 @@ fn address_in(s: Sense, d: Decoded) -> Address
     }
 }
 
-// The address of the next instruction.
+/// The address of the next instruction.
+#[tactic(auto, unfolding(crate::specs::Plans::next_of, width::specs::Numbers::rest, width::specs::Numbers::residue, width::specs::Sizes::modulus, width::specs::Sizes::bits))]
 pub fn next_of(eip: u32, d: Decoded) -> u32
     ensures { result ≡ next_of eip d }
 {
@@ -179,28 +170,26 @@ pub fn next_of(eip: u32, d: Decoded) -> u32
     width::low(Size::Dword, eip as u64 + size)
 }
 
-// The plan, from what the opcode means, its operation and its size.
+/// The plan, from what the opcode means, its operation and its size.
+#[tactic(auto, unfolding(crate::specs::Plans::plan_for))]
 pub fn plan_for(eip: u32, d: Decoded, s: Sense, operation: Operation, w: Size, target: u32) -> Plan
     ensures { result ≡ plan_for eip d s operation w target }
 {
-    let destination = s.destination;
-    let source = s.source;
-    let other = s.other;
-    let repeat = d.repeat;
     Plan {
         operation,
         size: w,
-        destination: operand_at(destination, d, w),
-        source: operand_at(source, d, w),
-        other: operand_at(other, d, w),
-        repeat,
+        destination: operand_at(s.destination, d, w),
+        source: operand_at(s.source, d, w),
+        other: operand_at(s.other, d, w),
+        repeat: d.repeat,
         next: next_of(eip, d),
         target,
         address: address_in(s, d),
     }
 }
 
-// Where a displacement leads from the next instruction; with none, on.
+/// Where a displacement leads from the next instruction; with none, on.
+#[tactic(auto, unfolding(crate::specs::Plans::leads))]
 fn lead(relative: Option<u32>, next: u32) -> u32
     ensures { result ≡ leads relative next }
 {
@@ -210,13 +199,13 @@ fn lead(relative: Option<u32>, next: u32) -> u32
     }
 }
 
-// The plan of a decoded instruction at an address.
+/// The plan of a decoded instruction at an address.
+#[tactic(auto, unfolding(crate::specs::Plans::plan_of))]
 pub fn plan_of(eip: u32, d: Decoded) -> Plan
     ensures { result ≡ plan_of eip d }
 {
     let s = sense::table::sense(d.opcode);
-    let kind = s.kind;
-    let operation = sense::operations::operation(kind, d.opcode, (d.modrm / 8 % 8) as u32);
+    let operation = sense::operations::operation(s.kind, d.opcode, (d.modrm / 8 % 8) as u32);
     let w = size_of(s.byte, d.narrow);
     let target = lead(grammar::relative::relative_of(d), next_of(eip, d));
     plan_for(eip, d, s, operation, w, target)
