@@ -1,15 +1,13 @@
 -- A step and a run come to one answer: the number and the address tell why it ended. Assumes nothing.
 use Rattle.std.proofs.Common.{◌≡◌, ◌==◌, refl, sym, ap, ◌∙◌, ℕ, List, cond, Result, Ok, Err, arith}
 use Rattle.machine.specs.declared.registers.Machine.{Machine}
-use Rattle.effect.specs.declared.stop.Stop as Stops
 use Rattle.effect.specs.declared.stop.Stop.{Stop}
 use Rattle.effect.specs.Stops.{number_of, address_of}
 use Rattle.run.specs.declared.refusal.Refusal.{Refusal}
 use Rattle.run.specs.declared.step.Stopped.{Stopped}
 use Rattle.run.specs.declared.End.{End}
-use Rattle.run.specs.declared.Lent.{Lent}
 use Rattle.run.specs.declared.Ran as Code
-use Rattle.run.specs.Steps.{Moved, next, stop, Steps}
+use Rattle.run.specs.Steps.{Moved, next, Steps}
 use Rattle.run.specs.Runs as Runs
 use Rattle.run.specs.Runs.{HandedBack, number_at, address_at, told}
 

@@ -6,4 +6,4 @@ pub mod Standing
 pub mod Pausing
 pub mod Repetitions
 pub mod Sites
-pub mod Refusals
+pub mod Ends

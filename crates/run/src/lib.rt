@@ -5,19 +5,18 @@ mod refusal;
 mod site;
 pub mod step;
 
-pub use refusal::Refusal;
-
 ghost use Rattle.std.specs.Prelude.{◌≡◌};
 ghost use Rattle.run.specs.Steps.{fixed_to};
 ghost use Rattle.run.specs.Runs.{Runs, run_from, opened, closed, run_of, told, number_at, address_at};
-ghost use Rattle.run.specs.Refusals.{ended};
+ghost use Rattle.run.specs.Ends.{ended};
 
 use crate::refusal::admit;
 use crate::step::kept_step;
 use effect::Stop;
 use flags::Word;
-use machine::registers::Machine;
 use machine::memory::Memory;
+use machine::registers::Machine;
+pub use refusal::Refusal;
 use scalar::Xmm;
 
 /// The machine as the caller lends it, and gets it back: with the flags word.

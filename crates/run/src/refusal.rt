@@ -1,7 +1,7 @@
 //! Why a run is refused before any step.
 ghost use Rattle.std.specs.Prelude.{◌≡◌};
 ghost use Rattle.run.specs.Runs.{number_of, refusal};
-ghost use Rattle.run.specs.Refusals.{refused_with};
+ghost use Rattle.run.specs.Ends.{refused_with};
 
 /// Why a run is refused: 65,536 bytes at most of code, which has one at least, of data and of constants; the flags word; 1,000,000 steps at most.
 #[derive(Clone, Copy, Debug, PartialEq, Eq)]

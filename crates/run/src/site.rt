@@ -7,6 +7,12 @@ use grammar::instruction::Fault;
 use grammar::reader::read;
 use plan::Plan;
 
+/// A block that returns here has ended.
+const HOME: u32 = 0xFFFF_0000;
+
+/// Where code lies, and upward.
+const CODE: u32 = 0x0001_0000;
+
 /// The plan of the instruction at an EIP.
 #[derive(Clone, Copy)]
 pub struct Site {
@@ -19,18 +25,15 @@ pub struct Site {
 pub fn site_at(code: &[u8], eip: u32) -> Result<Plan, Stop>
     ensures { result ≡ site_of code.now eip }
 {
-    if eip == 0xFFFF_0000 {
+    if eip == HOME {
         return Err(Stop::Home);
     }
-    if eip < 0x0001_0000 {
-        return Err(Stop::OutsideCode);
-    }
-    let at = (eip - 0x0001_0000) as usize;
-    if code.len() <= at {
+    let at = eip.checked_sub(CODE).ok_or(Stop::OutsideCode)? as usize;
+    if at >= code.len() {
         return Err(Stop::OutsideCode);
     }
     match read(code, at) {
-        Ok(d) => Ok(plan::plan_of(eip, d)),
+        Ok(decoded) => Ok(plan::plan_of(eip, decoded)),
         Err(Fault::Cut) => Err(Stop::Cut),
         Err(Fault::Unknown) => Err(Stop::Unknown),
     }

@@ -6,8 +6,8 @@ ghost use Rattle.run.specs.Sites.{Keeps};
 
 use crate::site::{Site, plan_at, site_at};
 use effect::{Stop, execute};
-use machine::registers::Machine;
 use machine::memory::Memory;
+use machine::registers::Machine;
 
 /// A step that stopped: the machine as it was, and why.
 #[derive(Drop)]
