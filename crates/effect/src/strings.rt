@@ -79,10 +79,7 @@ fn round(m: &mut Machine, op: Strings, w: Size, memory: &mut Memory) -> Result<(
 fn over(again: Repeat, op: Strings, left: u32, zf: bool) -> bool
     ensures { result ≡ S.over again op left zf }
 {
-    let compares = match op {
-        Strings::Movs | Strings::Stos | Strings::Lods => false,
-        Strings::Cmps | Strings::Scas => true,
-    };
+    let compares = matches!(op, Strings::Cmps | Strings::Scas);
     match again {
         Repeat::Absent => true,
         Repeat::F2 => left == 0 || compares && zf,
@@ -96,10 +93,7 @@ fn over(again: Repeat, op: Strings, left: u32, zf: bool) -> bool
 fn idle(m: &Machine, again: Repeat) -> bool
     ensures { result ≡ S.idle again m.now }
 {
-    match again {
-        Repeat::Absent => false,
-        Repeat::F2 | Repeat::F3 => m.register(ECX) == 0,
-    }
+    matches!(again, Repeat::F2 | Repeat::F3) && m.register(ECX) == 0
 }
 
 /// After a round: on; of a repetition ECX less 1, and on where it is over.

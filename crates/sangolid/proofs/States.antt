@@ -22,31 +22,6 @@ sets_whole vs l e =
     let long : 0 + length vs ≡ length l = omega arith in
     sets-eq vs l 0 (omega arith) ∙ ap (λ (k : ℕ). vs ++ drop k l) long ∙ ap (λ (r : List ℕ). vs ++ r) (drop-length l) ∙ append-nil vs
 
--- four words, one after the other
-pub four_sets : (l : List ℕ) (i a b c d : ℕ) → set (set (set (set l i a) (i + 1) b) (i + 2) c) (i + 3) d ≡ sets l i (a ∷ b ∷ c ∷ d ∷ [])
-four_sets l i a b c d =
-    let one : i + 1 ≡ suc i = omega arith in
-    let two : i + 2 ≡ suc (suc i) = omega arith in
-    let three : i + 3 ≡ suc (suc (suc i)) = omega arith in
-    rw (one, two, three) refl
-
--- twelve words, four at a time, are the rest of a state
-pub rest_put : (state : List ℕ) {one two three : List ℕ} (m : Lent) (steps address : ℕ)
-    → one ≡ sets state 8 (m.eip ∷ m.word ∷ bits_in m.xmm 0 ∷ bits_in m.xmm 1 ∷ [])
-    → two ≡ sets one 12 (bits_in m.xmm 2 ∷ bits_in m.xmm 3 ∷ bits_in m.xmm 4 ∷ bits_in m.xmm 5 ∷ [])
-    → three ≡ sets two 16 (bits_in m.xmm 6 ∷ bits_in m.xmm 7 ∷ steps ∷ address ∷ [])
-    → three ≡ sets state 8 (rest_of m steps address)
-rest_put state m steps address first second third = rw (third, second, first) refl
-
--- eight words, four at a time, and the rest are a whole state
-pub handed : (state : List ℕ) {one two three : List ℕ} (r : Ran) → length state ≡ 20
-    → one ≡ sets state 0 (get_or r.machine.regs 0 0 ∷ get_or r.machine.regs 1 0 ∷ get_or r.machine.regs 2 0 ∷ get_or r.machine.regs 3 0 ∷ [])
-    → two ≡ sets one 4 (get_or r.machine.regs 4 0 ∷ get_or r.machine.regs 5 0 ∷ get_or r.machine.regs 6 0 ∷ get_or r.machine.regs 7 0 ∷ [])
-    → three ≡ sets two 8 (rest_of r.machine r.steps r.address)
-    → three ≡ state_of r
-unfolding state_of
-handed state r long first second third = rw (third, second, first) (sets_whole (state_of r) state long)
-
 module _ (state : List ℕ) (fixed : Fixed) (d : List ℕ) (budget : ℕ) where
   -- a state of another length: 90, and nothing is changed
   pub misfit_changes_nothing : (length state ≡ 20 → ⊥) → call_of state fixed d budget ≡ record { number = misfit; state = state; area = d }

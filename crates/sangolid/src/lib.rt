@@ -5,12 +5,13 @@ ghost use Rattle.std.specs.Prelude.{◌≡◌, [], ◌∷◌, ◌+◌, ◌<◌, 
 ghost use Rattle.std.proofs.lemmas.List.Edits.{sets};
 ghost use Rattle.run.specs.Steps.{fixed_to};
 ghost use Rattle.run.specs.Runs.{told};
-ghost use Rattle.sangolid.specs.Interface.{lent_of, rest_of, state_of, call_of, Calls, Checks, word_of, Unhexes};
+ghost use Rattle.sangolid.specs.Interface.{lent_of, state_of, call_of, Calls, Checks, word_of, Unhexes};
 
 use run::{Lent, Ran};
 use scalar::Xmm;
 
-// The machine in the first eighteen words of the state.
+/// The machine in the first eighteen words of the state.
+#[tactic(auto, unfolding(crate::specs::Interface::lent_of))]
 fn lent(state: &[u32]) -> Lent
     requires { length state.now ≡ 20 }
     ensures { result ≡ lent_of state.now }
@@ -36,49 +37,38 @@ fn lent(state: &[u32]) -> Lent
     }
 }
 
-// Puts four words into the state from a place on.
-fn put_four(state: &mut [u32], at: usize, a: u32, b: u32, c: u32, d: u32)
-    requires { at + 4 ≤ length state.old }
-    ensures { state.new ≡ sets state.old at (a ∷ b ∷ c ∷ d ∷ []) }
-{
-    state[at] = a;
-    state[at + 1] = b;
-    state[at + 2] = c;
-    state[at + 3] = d;
-}
-
-// Puts the machine's last ten words, steps and address into the state: EIP, flags word, XMM0 to XMM7.
-fn put_rest(state: &mut [u32], m: Lent, steps: u32, address: u32)
-    requires { length state.old ≡ 20 }
-    ensures { state.new ≡ sets state.old 8 (rest_of m steps address) }
-{
-    let xmm = m.xmm;
-    put_four(state, 8, m.eip, m.word, xmm[0].bits, xmm[1].bits);
-    put_four(
-        state,
-        12,
-        xmm[2].bits,
-        xmm[3].bits,
-        xmm[4].bits,
-        xmm[5].bits,
-    );
-    put_four(state, 16, xmm[6].bits, xmm[7].bits, steps, address);
-}
-
-// Puts what a run gives back into the state, but for its number.
-fn hand_back(state: &mut [u32], ran: Ran)
-    requires state_len { length state.old ≡ 20 }
-    requires steps_bound { ran.steps < 2 ^ 32 }
-    ensures { state.new ≡ state_of (told ran) }
+/// The state after a run: the machine in the same places, then the steps and the address.
+#[tactic(auto, unfolding(crate::specs::Interface::state_of, machine::specs::Registers::bits_in, run::specs::Runs::told))]
+fn state_of(ran: &Ran) -> [u32; 20]
+    requires { ran.now.steps < 2 ^ 32 }
+    ensures { result ≡ state_of (told ran.now) }
 {
     let m = ran.machine;
-    let regs = m.regs;
-    put_four(state, 0, regs[0], regs[1], regs[2], regs[3]);
-    put_four(state, 4, regs[4], regs[5], regs[6], regs[7]);
-    put_rest(state, m, ran.steps as u32, ran.address());
+    [
+        m.regs[0],
+        m.regs[1],
+        m.regs[2],
+        m.regs[3],
+        m.regs[4],
+        m.regs[5],
+        m.regs[6],
+        m.regs[7],
+        m.eip,
+        m.word,
+        m.xmm[0].bits,
+        m.xmm[1].bits,
+        m.xmm[2].bits,
+        m.xmm[3].bits,
+        m.xmm[4].bits,
+        m.xmm[5].bits,
+        m.xmm[6].bits,
+        m.xmm[7].bits,
+        ran.steps as u32,
+        ran.address(),
+    ]
 }
 
-// Runs the block from the state, over the lent constants and data, and puts what comes back into the state.
+/// Runs the block from the state, over the lent constants and data, and puts what comes back into the state.
 pub fn sangolid_run(
     state: &mut [u32],
     code: &[u8],
@@ -92,7 +82,7 @@ pub fn sangolid_run(
         return 90;
     }
     let ran = run::run(lent(state), code, constants, area, budget);
-    hand_back(state, ran);
+    state.copy_from_slice(&state_of(&ran));
     ran.number()
 }
 
