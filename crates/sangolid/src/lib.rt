@@ -1,8 +1,7 @@
-// The C interface: a run, a block check and the reading of a hex file, over areas that the caller lends.
+//! The C interface: a run, a block check and the reading of a hex file, over areas that the caller lends.
 #![tactic(auto)]
 
 ghost use Rattle.std.specs.Prelude.{◌≡◌, [], ◌∷◌, ◌+◌, ◌<◌, ◌≤◌, ◌^◌, length};
-ghost use Rattle.std.proofs.lemmas.List.Edits.{sets};
 ghost use Rattle.run.specs.Steps.{fixed_to};
 ghost use Rattle.run.specs.Runs.{told};
 ghost use Rattle.sangolid.specs.Interface.{lent_of, state_of, call_of, Calls, Checks, word_of, Unhexes};
@@ -10,12 +9,16 @@ ghost use Rattle.sangolid.specs.Interface.{lent_of, state_of, call_of, Calls, Ch
 use run::{Lent, Ran};
 use scalar::Xmm;
 
+/// The number of a length that does not fit.
+const MISFIT: u32 = 90;
+
 /// The machine in the first eighteen words of the state.
 #[tactic(auto, unfolding(crate::specs::Interface::lent_of))]
 fn lent(state: &[u32]) -> Lent
     requires { length state.now ≡ 20 }
     ensures { result ≡ lent_of state.now }
 {
+    // Word by word: with `array::from_fn` the clause stays open.
     let regs = [
         state[0], state[1], state[2], state[3], state[4], state[5], state[6], state[7],
     ];
@@ -79,19 +82,19 @@ pub fn sangolid_run(
     ensures { Calls (call_of state.old (fixed_to code.now constants.now) area.old budget) result state.new area.new }
 {
     if state.len() != 20 {
-        return 90;
+        return MISFIT;
     }
     let ran = run::run(lent(state), code, constants, area, budget);
     state.copy_from_slice(&state_of(&ran));
     ran.number()
 }
 
-// Checks the block, marks its starts, and puts the count or the offset into the answer.
+/// Checks the block, marks its starts, and puts the count or the offset into the answer.
 pub fn sangolid_check(code: &[u8], marks: &mut [u8], answer: &mut [u32]) -> u32
     ensures { Checks code.now marks.old answer.old result marks.new answer.new }
 {
     if answer.len() != 1 {
-        return 90;
+        return MISFIT;
     }
     match blockcheck::check(code, marks) {
         Ok(count) => {
@@ -105,22 +108,20 @@ pub fn sangolid_check(code: &[u8], marks: &mut [u8], answer: &mut [u32]) -> u32
     }
 }
 
-// A code's length or a line as a word; one that no word holds is FFFFFFFFh.
+/// A code's length or a line as a word; one that no word holds is FFFFFFFFh.
+#[tactic(auto, unfolding(crate::specs::Interface::word_of))]
 fn word_of(n: usize) -> u32
     ensures { result ≡ word_of n }
 {
-    if n < 0xFFFF_FFFF {
-        return n as u32;
-    }
-    0xFFFF_FFFF
+    u32::try_from(n).unwrap_or(u32::MAX)
 }
 
-// Reads a hex file into the code area, and puts the code's length or the line into the answer.
+/// Reads a hex file into the code area, and puts the code's length or the line into the answer.
 pub fn sangolid_hex(text: &[u8], code: &mut [u8], answer: &mut [u32]) -> u32
     ensures { Unhexes text.now code.old answer.old result code.new answer.new }
 {
     if answer.len() != 1 {
-        return 90;
+        return MISFIT;
     }
     match intel_hex::read(text, code) {
         Ok(size) => {
