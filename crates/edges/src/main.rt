@@ -36,8 +36,8 @@ fn word_at(area: &mut [u8], a: u32) -> u32 {
 /// The line of a half of case 10: number, EIP, ECX, ESI and EDI, the last word that was moved and the one behind it.
 fn say_half(to: &impl Print, r: &Ran, last: u32, behind: u32) {
     let m = &r.machine;
-    println!(
-        to; "10\t{}\t{:08X}\t{}\t{:08X}\t{:08X}\t{last:08X}\t{behind:08X}",
+    println!(to;
+        "10\t{}\t{:08X}\t{}\t{:08X}\t{:08X}\t{last:08X}\t{behind:08X}",
         r.number(),
         m.eip,
         m.regs[ECX as usize],
@@ -73,8 +73,8 @@ fn stopped(to: &impl Print, code: &[u8]) {
     let last = word_at(&mut area, 0x0010_015C);
     let steps = r.steps;
     let ecx = r.machine.regs[ECX as usize];
-    println!(
-        to; "11\t{steps}\t{}\t{:08X}\t{ecx}\t{last:08X}",
+    println!(to;
+        "11\t{steps}\t{}\t{:08X}\t{ecx}\t{last:08X}",
         r.number(),
         r.address(),
     )
@@ -86,12 +86,7 @@ fn reads(to: &impl Print, code: &[u8], esi: u32) {
     let mut area = [0x11u8, 0x22, 0x33, 0x44, 0x55, 0x66, 0x77, 0x88];
     let r = run(lent(0, esi, 0), code, b"", &mut area, 1);
     let eax = r.machine.regs[EAX as usize];
-    println!(
-        to; "12\t{}\t{:08X}\t{eax:08X}",
-        r.number(),
-        r.address(),
-    )
-    .ok();
+    println!(to; "12\t{}\t{:08X}\t{eax:08X}", r.number(), r.address()).ok();
 }
 
 fn main(rt: HostRuntime) {

@@ -1,9 +1,9 @@
 -- States and answers written whole, and what a call comes to. Assumes nothing.
 use mathlib.Core.Path.{◌≡◌, refl, ap, ◌∙◌}
 use mathlib.Core.List.{List, [], ◌∷◌, ◌++◌, append-nil}
-use Prim.Native.Nat.{ℕ, suc, ◌+◌, ◌^◌, ◌<◌}
+use Prim.Native.Nat.{ℕ, ◌+◌, ◌^◌, ◌<◌}
 use native.Mathlib.Omega.{arith}
-use lib.ListN.{length, drop, get_or, set}
+use lib.ListN.{length, drop, set}
 use lib.Seq.{sets, sets-eq, drop-length}
 use borrow.Author.Tests.{eq-eqb, ne_eqb}
 use Rattle.blockcheck.specs.Blocks.{Judged}
@@ -12,8 +12,7 @@ use Rattle.run.specs.declared.Lent.{Lent}
 use Rattle.run.specs.declared.Ran as Code
 use Rattle.run.specs.Steps.{Fixed}
 use Rattle.run.specs.Runs.{Ran, told, Runs, run_of}
-use Rattle.machine.specs.Registers.{bits_in}
-use Rattle.sangolid.specs.Interface.{rest_of, misfit, lent_of, state_of, called, call_of, Calls, Checks, judged, word_of, Unhexes, unhexed}
+use Rattle.sangolid.specs.Interface.{misfit, lent_of, state_of, called, call_of, Calls, Checks, judged, word_of, Unhexes, unhexed}
 use Rattle.sangolid.proofs.Bounds.{steps_fit}
 
 -- an area as long as what is written over it holds nothing else
