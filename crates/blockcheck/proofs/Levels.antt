@@ -2,8 +2,7 @@
 use mathlib.Core.Path.{◌≡◌, refl, ap, sym, ◌∙◌}
 use mathlib.Core.List.Memᴰ
 use mathlib.Core.List.{List, [], ◌∷◌, ◌++◌, Memᴰ}
-use Prim.Native.Nat.{ℕ, zero, suc, ◌<◌, ◌≤◌}
-use native.Mathlib.Nat.{le_of_suc-le-suc, not-suc-le-zero}
+use Prim.Native.Nat.{ℕ, zero, suc, ◌<◌}
 use native.Mathlib.Omega.{arith}
 use native.Mathlib.Decide.{ℕ_discrete}
 use lib.ListN.{length, get_or, set, replicate, length-map, get_or-map}
@@ -104,33 +103,3 @@ coded_shows {pieces} {code} {marks} cut coded =
   where
     same : (i : ℕ) → level_of (get_or marks i 0) ≡ get_or (marked (length code) (starts_from 0 pieces)) i 0
     same i = sym (levelled_at marks i) ∙ ap (λ (l : List ℕ). get_or l i 0) coded.level
-
--- the marks before a place are levelled
-unfoldable pub levelled_to : ℕ → List ℕ → List ℕ
-levelled_to zero marks = marks
-levelled_to (suc i) [] = []
-levelled_to (suc i) (mark ∷ marks) = level_of mark ∷ levelled_to i marks
-
--- they are as many
-pub levelling_long : (i : ℕ) (marks : List ℕ) → length (levelled_to i marks) ≡ length marks
-unfolding levelled_to
-levelling_long zero marks = refl
-levelling_long (suc i) [] = refl
-levelling_long (suc i) (mark ∷ marks) = ap suc (levelling_long i marks)
-
--- one mark more is levelled
-pub levelling_more : (i : ℕ) (marks : List ℕ)
-    → set (levelled_to i marks) i (level_of (get_or (levelled_to i marks) i 0)) ≡ levelled_to (suc i) marks
-unfolding levelled_to
-levelling_more zero [] = refl
-levelling_more zero (mark ∷ marks) = refl
-levelling_more (suc i) [] = refl
-levelling_more (suc i) (mark ∷ marks) = ap (λ (l : List ℕ). level_of mark ∷ l) (levelling_more i marks)
-
--- at the end all are
-pub levelling_all : (i : ℕ) (marks : List ℕ) → length marks ≤ i → levelled_to i marks ≡ levelled marks
-unfolding levelled_to levelled
-levelling_all zero [] h = refl
-levelling_all zero (mark ∷ marks) h = absurd (not-suc-le-zero h)
-levelling_all (suc i) [] h = refl
-levelling_all (suc i) (mark ∷ marks) h = ap (λ (l : List ℕ). level_of mark ∷ l) (levelling_all i marks (le_of_suc-le-suc h))

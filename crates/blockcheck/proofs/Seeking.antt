@@ -101,15 +101,10 @@ module _ (code marks : List ℕ) (at : ℕ) where
       go (holds a) = onward (λ m d e. rw (same d e) a)
       go (fails a) = astray (shows.start at (λ none. omega arith)) (λ fine. a (fine x f))
 
-  -- a look where the code ends inside an instruction
-  pub found_cut : decode_of code at ≡ Err Fault.Cut → Looks code marks at true
+  -- a look where no instruction stands
+  pub found_nothing : {fault : Fault} → decode_of code at ≡ Err fault → Looks code marks at true
   unfolding Looks Fine
-  found_cut f w = onward (λ m d e. absurd (let z : ◌≡◌ {A = ℕ} 0 1 = cc in omega arith))
-
-  -- a look where no instruction begins
-  pub found_unknown : decode_of code at ≡ Err Fault.Unknown → Looks code marks at true
-  unfolding Looks Fine
-  found_unknown f w = onward (λ m d e. absurd (let z : ◌≡◌ {A = ℕ} 0 1 = cc in omega arith))
+  found_nothing f w = onward (λ m d e. absurd (let z : ◌≡◌ {A = ℕ} 0 1 = cc in omega arith))
 
 -- no start of a cut lies before its first
 starts_from_lem : {s : ℕ} (i : ℕ) (pieces : List (List ℕ)) → Memᴰ s (starts_from i pieces) → i ≤ s
@@ -193,18 +188,16 @@ module _ {code marks : List ℕ} {at : ℕ} (so : Seeking code marks at) where
       go (onward fine) s (no other) before m = so.fine s (omega arith) m
 
   -- the place is the first astray
-  pub stops : at < length code → Looks code marks at false → Sought code at
+  pub stops : Looks code marks at false → Sought code (Some at)
   unfolding Looks
-  stops h looks = go (looks so.whole)
+  stops looks = go (looks so.whole)
     where
-      go : Looked code starts at false → Sought code at
-      go (astray m wrong) = astray_at so.whole.cut h (first_wrong code starts 0 so.whole.cut refl so.fine m wrong)
+      go : Looked code starts at false → Sought code (Some at)
+      go (astray m wrong) = astray_at so.whole.cut (first_wrong code starts 0 so.whole.cut refl so.fine m wrong)
 
   -- all places are looked at: all displacements are good
-  pub ends : length code ≤ at → Sought code at
+  pub ends : length code ≤ at → Sought code None
   ends h =
-      let e : length code ≡ at = omega (arith, so.inside) in
       let fine : (s : ℕ) → Memᴰ s starts → Fine code starts s =
       λ s m. so.fine s (let in_code = starts_inside 0 so.whole.cut m in omega arith) m in
-      let all : Sought code (length code) = all_good so.whole.cut (all_fine code starts 0 so.whole.cut refl fine) in
-      rw e at all
+      all_good so.whole.cut (all_fine code starts 0 so.whole.cut refl fine)

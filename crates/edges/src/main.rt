@@ -1,4 +1,5 @@
 //! Document 01's cases 10, 11 and 12: each run's line has the case's number and what the document says of it, tab-parted.
+//! A write that fails is dropped.
 #![tactic(auto)]
 
 use machine::memory::Memory;

@@ -7,8 +7,8 @@ use native.Mathlib.Omega.{arith}
 use Rattle.width.specs.declared.Size.{Size}
 use Rattle.width.specs.declared.Size.TheVariants.{Byte}
 use Rattle.scalar.specs.declared.Xmm.{Xmm}
-use Rattle.product.specs.declared.Division.{Division}
-use Rattle.product.specs.declared.Division.TheVariants.{Parts, Fault}
+use Rattle.std.specs.Prelude.{Option, None, Some}
+use Rattle.product.specs.declared.Parts.{Parts}
 use Rattle.machine.specs.declared.registers.Machine.{Machine}
 use Rattle.machine.specs.Registers.{register, with_register, with_eip, with_flags, with_xmm, part, with_part}
 use Rattle.machine.specs.Lending.{xmm_of}
@@ -157,10 +157,10 @@ module _ (m : Machine) (xmm : List Xmm) (p : Plan) where
       (becomes_framed (with_flags (onward m p) c.flags) xmm)
 
   -- a division
-  quotient_framed : (q : Division) → Framed xmm (quotient q m p) (quotient q (with_xmm m xmm) p)
+  quotient_framed : (q : Option Parts) → Framed xmm (quotient q m p) (quotient q (with_xmm m xmm) p)
   unfolding register with_register with_eip with_flags with_xmm part with_part onward doubled quotient
-  quotient_framed Fault = faults_framed m xmm
-  quotient_framed (Parts q r) = becomes_framed _ xmm
+  quotient_framed None = faults_framed m xmm
+  quotient_framed (Some d) = becomes_framed _ xmm
 
   -- what the operations that compute do
   arithmetic_framed : (op : Arithmetic) (a r : ℕ) → Framed xmm (arithmetic_effect op m p a r) (arithmetic_effect op (with_xmm m xmm) p a r)

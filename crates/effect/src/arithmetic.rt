@@ -16,7 +16,7 @@ use flags::Word;
 use machine::memory::{Memory, Outside};
 use machine::registers::{AH, EAX, EDX, Machine};
 use plan::{Operand, Plan};
-use product::Division;
+use product::Parts;
 use sense::{Arithmetic, Bits};
 use shift::Shift;
 use width::Size;
@@ -232,20 +232,13 @@ fn multiplied_signed(m: &mut Machine, p: &Plan, b: u32)
 
 /// Quotient to the accumulator, remainder to the upper half's register; the status flags are undefined.
 #[tactic(auto, unfolding(crate::specs::Arithmetic::quotient))]
-fn quotient(m: &mut Machine, p: &Plan, d: Division) -> Result<(), Stop>
+fn quotient(m: &mut Machine, p: &Plan, d: Option<Parts>) -> Result<(), Stop>
     ensures { Comes (Op.quotient d m.old p.now) m.old result m.new }
 {
-    match d {
-        Division::Parts {
-            quotient: q,
-            remainder: r,
-        } => {
-            let f = flags::all_undefined(m.flags().unpack());
-            doubled(m, p, Word::pack(f), q, r);
-            Ok(())
-        }
-        Division::Fault => Err(Stop::Divide),
-    }
+    let d = d.ok_or(Stop::Divide)?;
+    let f = flags::all_undefined(m.flags().unpack());
+    doubled(m, p, Word::pack(f), d.quotient, d.remainder);
+    Ok(())
 }
 
 /// 003 "DIV".

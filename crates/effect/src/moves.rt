@@ -80,7 +80,7 @@ fn chosen(m: &Machine, n: u32, p: &Plan, r: u32) -> u32
 }
 
 /// What the operation does; a is the effective address.
-#[tactic(auto, using(crate::proofs::Assign::done_assign, crate::proofs::Assign::done_becomes), unfolding(crate::specs::Does::did, crate::specs::Does::got_of, crate::specs::Moves::move_reads, crate::specs::Moves::move_effect, crate::specs::Moves::exchanged, crate::specs::Words::onward))]
+#[tactic(auto, using(crate::proofs::Assign::done_assign, crate::proofs::Assign::done_becomes), unfolding(crate::specs::Does::did, crate::specs::Does::got_of, crate::specs::Moves::move_reads, crate::specs::Moves::move_effect, crate::specs::Moves::exchanged, crate::specs::Words::onward, width::specs::Numbers::bit))]
 pub fn moves(m: &mut Machine, op: Move, p: &Plan, a: u32, memory: &mut Memory) -> Result<(), Stop>
     ensures does { Performs (M.move_reads op p.now a) (λ r s. M.move_effect op m.old p.now a r) m.old memory.old result m.new memory.new }
     ensures same_areas { SameAreas memory.old memory.new }
@@ -97,7 +97,7 @@ pub fn moves(m: &mut Machine, op: Move, p: &Plan, a: u32, memory: &mut Memory) -
         }
         Move::MovSign(from) => {
             let r = fetch(p.source, from, a, memory).map_err(Stop::Read)?;
-            let v = width::sign_extended(from, w, value(m, p.source, r, from));
+            let v = from.sign_extended(w, value(m, p.source, r, from));
             given(m, p, a, v, memory)
         }
         Move::Lea => given(m, p, a, a, memory),
@@ -113,13 +113,13 @@ pub fn moves(m: &mut Machine, op: Move, p: &Plan, a: u32, memory: &mut Memory) -
         }
         Move::Convert => {
             let from = smaller(w);
-            let v = width::sign_extended(from, w, m.part(from, EAX));
+            let v = from.sign_extended(w, m.part(from, EAX));
             m.set_eip(p.next);
             m.set_part(w, EAX, v);
             Ok(())
         }
         Move::Spread => {
-            let v = width::sign_filled(w, m.part(w, EAX));
+            let v = w.sign_filled(m.part(w, EAX));
             m.set_eip(p.next);
             m.set_part(w, EDX, v);
             Ok(())
@@ -132,7 +132,7 @@ pub fn moves(m: &mut Machine, op: Move, p: &Plan, a: u32, memory: &mut Memory) -
             memory,
         ),
         Move::Set(n) => {
-            let v = width::bit(flags::meets(n, m.flags().unpack())) as u32;
+            let v = u32::from(flags::meets(n, m.flags().unpack()));
             given(m, p, a, v, memory)
         }
         Move::Lahf => {

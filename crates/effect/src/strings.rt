@@ -22,7 +22,7 @@ use width::Size;
 fn pass(m: &mut Machine, w: Size, i: u32)
     ensures { m.new ≡ S.passed m.old w i }
 {
-    let size = width::bytes(w) as u32;
+    let size = w.bytes() as u32;
     let a = m.register(i);
     let on = if m.flags().unpack().df {
         a.wrapping_sub(size)

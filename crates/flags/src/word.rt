@@ -30,6 +30,7 @@ impl Word {
         Word { bits }
     }
 
+    /// A word of the flags.
     #[inline(always)]
     pub fn bits(&self) -> u32
         ensures { flags_of result ≡ self.now }
@@ -37,6 +38,7 @@ impl Word {
         self.bits
     }
 
+    /// The word of some flags.
     #[inline(always)]
     #[tactic(auto, using(crate::proofs::RoundTrips::unpacked))]
     pub fn pack(f: Flags) -> Word
@@ -47,6 +49,7 @@ impl Word {
         }
     }
 
+    /// The flags that it means.
     #[inline(always)]
     pub fn unpack(&self) -> Flags
         ensures { result ≡ self.now }

@@ -108,14 +108,6 @@ pub fn read(code: &[u8], at: usize) -> Result<Decoded, Fault>
 pub fn own_bytes(code: &[u8], at: usize, d: Decoded) -> &[u8]
     ensures { result.now ≡ own_bytes d (drop at code.now) }
 {
-    let size = code.len();
-    if size <= at {
-        return &code[..0];
-    }
-    let count = d.length;
-    if size - at < count {
-        return &code[at..];
-    }
-    let end = at + count;
-    &code[at..end]
+    let rest = &code[at.min(code.len())..];
+    &rest[..d.length.min(rest.len())]
 }

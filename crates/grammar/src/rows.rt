@@ -4,6 +4,7 @@ ghost use Rattle.grammar.specs.Rows.{row_of, row_at, number_of};
 
 use crate::rule::Row;
 
+/// The rows of the opcodes: 00 to FF alone, then 00 to FF after 0F.
 #[rattlefmt::skip]
 static ROWS: [Row; 512] = [
     Row::AluRmRegByte,

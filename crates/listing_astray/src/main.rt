@@ -1,4 +1,4 @@
-// The listing program on a jump that leads to no start.
+//! The listing program on a jump that leads to no start.
 #![tactic(auto)]
 
 fn main(rt: HostRuntime) {

@@ -1,4 +1,4 @@
-// The listing program on a block that ends inside an instruction.
+//! The listing program on a block that ends inside an instruction.
 #![tactic(auto)]
 
 fn main(rt: HostRuntime) {

@@ -1,4 +1,4 @@
-// The listing program on empty input.
+//! The listing program on empty input.
 #![tactic(auto)]
 
 fn main(rt: HostRuntime) {

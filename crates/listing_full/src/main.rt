@@ -1,4 +1,4 @@
-// The listing program on 65,536 instructions of one byte.
+//! The listing program on 65,536 instructions of one byte.
 #![tactic(auto)]
 
 fn main(rt: HostRuntime) {

@@ -1,4 +1,4 @@
-// The listing program on opcodes after 0F, prefixes, and the longest instruction.
+//! The listing program on opcodes after 0F, prefixes, and the longest instruction.
 #![tactic(auto)]
 
 fn main(rt: HostRuntime) {

@@ -1,4 +1,4 @@
-// The listing program on 65,537 bytes.
+//! The listing program on 65,537 bytes.
 #![tactic(auto)]
 
 fn main(rt: HostRuntime) {

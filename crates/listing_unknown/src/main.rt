@@ -1,4 +1,4 @@
-// The listing program on a block with no such instruction.
+//! The listing program on a block with no such instruction.
 #![tactic(auto)]
 
 fn main(rt: HostRuntime) {

@@ -1,11 +1,12 @@
 -- Accesses to the lent areas: what each is by whether an area holds it, and a load of what was stored. Assumes nothing.
 use mathlib.Core.Path.{◌≡◌, refl, sym, ap, ◌∙◌}
 use mathlib.Core.Bool.{Bool, true, false, cond, and-eq-true_iff}
-use mathlib.Core.List.{List, append_assoc}
+use mathlib.Core.List.{List, [], append_assoc}
 use Prim.Native.Nat.{ℕ, zero, suc, ◌+◌, ◌-◌, ◌*◌, ◌%◌, ◌^◌, ◌<◌, ◌≤◌}
 use native.Mathlib.Omega.{arith}
+use Rattle.std.specs.Prelude.{Option, Some, None}
 use lib.Dec.{leb}
-use lib.ListN.{length, get_or, take, drop}
+use lib.ListN.{length, get_or, take, drop, length-drop}
 use lib.Seq.{sets, length-sets, sets-eq, take_at, drop_at, take_all, length-take-le}
 use borrow.Author.Tests.{leb-true, le-leb, lt-leb}
 use Rattle.width.specs.declared.Size.{Size}
@@ -13,7 +14,7 @@ use Rattle.width.specs.declared.Size.TheVariants.{Byte, Word, Dword}
 use Rattle.width.specs.Sizes.{bits, bytes, modulus}
 use Rattle.width.specs.LittleEndian.{little_endian, bytes_of}
 use Rattle.width.proofs.LittleEndian.{number_one, number_two, number_four}
-use Rattle.machine.specs.Memory.{data_base, constants_base, holds, first_outside, first_unread, part_of, part, outside, read_of, numbered, load_of, stored_of, store_of, Value, Stored, Done}
+use Rattle.machine.specs.Memory.{data_base, constants_base, holds, place_of, first_outside, first_unread, part_of, Read, part, outside, read_of, held, Loaded, Value, Stored, Done, numbered, load_of, stored_of, store_of}
 
 module _ (base len n a : ℕ) where
   -- an area holds an access that lies in it
@@ -41,6 +42,37 @@ module _ (base len n a : ℕ) where
   -- so that its place and its bytes fit
   pub fits_in : holds base len n a ≡ true → a - base + n ≤ len
   fits_in h = let (low, high) = is_within h in omega arith
+
+  -- the area holds the access, from at on
+  pub record Placed (at : ℕ) : Type 0 where
+    pub inside : holds base len n a ≡ true
+    pub place : at ≡ a - base
+    pub fits : at + n ≤ len
+
+  -- the area does not hold the access
+  pub record Missed : Type 0 where
+    pub outside : holds base len n a ≡ false
+
+-- what a place that was found says of the access
+pub placed : {p : Option ℕ} {base len m n a at : ℕ} → m ≡ n → p ≡ place_of base len m a → p ≡ Some at → Placed base len n a at
+unfolding place_of
+placed {p} {base} {len} {m} {n} {a} {at} size found is = by (holds base len n a) refl (rw size at (sym found ∙ is))
+  where
+    by : (t : Bool) → holds base len n a ≡ t → cond t (Some (a - base)) None ≡ Some at → Placed base len n a at
+    by true h e =
+        let within = fits_in base len n a h in
+        let place : at ≡ a - base = cc in
+        record { inside = h; place = place; fits = omega arith }
+    by false h e = absurd (let z : ◌≡◌ {A = ℕ} 0 1 = cc in omega arith)
+
+-- what an answer that none was found says of it
+pub missed : {p : Option ℕ} {base len m n a : ℕ} → m ≡ n → p ≡ place_of base len m a → p ≡ None → Missed base len n a
+unfolding place_of
+missed {p} {base} {len} {m} {n} {a} size found is = by (holds base len n a) refl (rw size at (sym found ∙ is))
+  where
+    by : (t : Bool) → holds base len n a ≡ t → cond t (Some (a - base)) None ≡ None → Missed base len n a
+    by true h e = absurd (let z : ◌≡◌ {A = ℕ} 0 1 = cc in omega arith)
+    by false h e = record { outside = h }
 
 module _ (base len a : ℕ) where
   -- from an address in an area on, its end is the first outside
@@ -82,12 +114,70 @@ module _ (constants d : List ℕ) (n a : ℕ) where
     unfolding read_of
     read_outside h = rw (elsewhere, h)
 
+  -- data holds the bytes from its place on
+  pub held_data : {at : ℕ} → Placed data_base (length d) n a at → take (at + n - at) (drop at d) ≡ held (read_of constants d n a)
+  unfolding part_of held
+  held_data {at} p = let long : at + n - at ≡ n = omega arith in rw (read_data p.inside, long, p.place)
+
+  -- constants hold them
+  pub held_constants : {at : ℕ} → Missed data_base (length d) n a → Placed constants_base (length constants) n a at
+      → take (at + n - at) (drop at constants) ≡ held (read_of constants d n a)
+  unfolding part_of held
+  held_constants {at} missing p =
+      let long : at + n - at ≡ n = omega arith in rw (read_constants missing.outside p.inside, long, p.place)
+
+  -- neither does
+  pub held_none : Missed data_base (length d) n a → Missed constants_base (length constants) n a → [] ≡ held (read_of constants d n a)
+  unfolding held
+  held_none missing missing' = rw (read_outside missing.outside missing'.outside)
+
+  -- the part has as many bytes as were to be read
+  part_long : (base : ℕ) (area : List ℕ) → holds base (length area) n a ≡ true → length (part_of base area n a) ≡ n
+  unfolding part_of
+  part_long base area h =
+      let within = fits_in base (length area) n a h in
+      length-take-le n (drop (a - base) area) (rw (length-drop (a - base) area) (omega arith))
+
+  -- what is read: so many bytes, or none, and then the first address outside is told
+  pub data Reads : Read → Type 0 where
+    whole : {bytes : List ℕ} → length bytes ≡ n → Reads (part bytes)
+    none : Reads (outside (first_unread constants d a))
+
+  pub reads : Reads (read_of constants d n a)
+  unfolding read_of
+  reads = by (holds data_base (length d) n a) (holds constants_base (length constants) n a) refl refl
+    where
+      by : (x y : Bool) → holds data_base (length d) n a ≡ x → holds constants_base (length constants) n a ≡ y
+          → Reads (cond x (part (part_of data_base d n a)) (cond y (part (part_of constants_base constants n a)) (outside (first_unread constants d a))))
+      by true y h k = whole (part_long data_base d h)
+      by false true h k = whole (part_long constants_base constants k)
+      by false false h k = none
+
 -- every size has a byte
 pub some_bytes : (w : Size) → 0 < bytes w
 unfolding bytes
 some_bytes Byte = omega arith
 some_bytes Word = omega arith
 some_bytes Dword = omega arith
+
+module _ (constants d : List ℕ) (w : Size) (a : ℕ) {m : ℕ} {got : List ℕ} (size : m ≡ bytes w) (is : got ≡ held (read_of constants d m a)) where
+  -- with no byte held a load gives the first address outside
+  pub load_none : length got ≡ 0 → Loaded.Outside (first_unread constants d a) ≡ load_of constants d w a
+  unfolding held numbered load_of
+  load_none empty = by (read_of constants d (bytes w) a) (reads constants d (bytes w) a) (rw size at is)
+    where
+      by : (r : Read) → Reads constants d (bytes w) a r → got ≡ held r → Loaded.Outside (first_unread constants d a) ≡ numbered r
+      by (part l) (whole long) e = absurd (let some = some_bytes w in let z : length l ≡ 0 = rw (← e) empty in omega arith)
+      by (outside b) none e = refl
+
+  -- with some it gives the number of as many as the size has
+  pub load_some : (length got ≡ 0 → ⊥) → (length got ≡ bytes w) × (Value (little_endian got) ≡ load_of constants d w a)
+  unfolding held numbered load_of
+  load_some some = by (read_of constants d (bytes w) a) (reads constants d (bytes w) a) (rw size at is)
+    where
+      by : (r : Read) → Reads constants d (bytes w) a r → got ≡ held r → (length got ≡ bytes w) × (Value (little_endian got) ≡ numbered r)
+      by (part l) (whole long) e = (rw e long, rw e)
+      by (outside b) none e = absurd (some (rw e))
 
 module _ (d : List ℕ) (w : Size) (a : ℕ) where
   -- a store that data holds is done

@@ -1,5 +1,5 @@
 -- The lent areas: data, read and written, and constants, which are only read. Assumes nothing.
-use Rattle.std.specs.Prelude.{Bool, ◌&&◌, List, ℕ, Option, Some, None, ◌+◌, ◌-◌, ◌%◌, ◌^◌, length, take, drop, if◌then◌else◌, nat_le}
+use Rattle.std.specs.Prelude.{Bool, ◌&&◌, List, [], ℕ, Option, Some, None, ◌+◌, ◌-◌, ◌%◌, ◌^◌, length, take, drop, if◌then◌else◌, nat_le}
 use Rattle.std.proofs.lemmas.List.Edits.{sets}
 use Rattle.width.specs.declared.Size.{Size}
 use Rattle.width.specs.Sizes.{bytes}
@@ -44,6 +44,11 @@ unfoldable pub read_of : List ℕ → List ℕ → ℕ → ℕ → Read
 read_of constants d n a =
     if holds data_base (length d) n a then part (part_of data_base d n a)
     else (if holds constants_base (length constants) n a then part (part_of constants_base constants n a) else outside (first_unread constants d a))
+
+-- the bytes that were read, none where neither area holds them
+unfoldable pub held : Read → List ℕ
+held (part bytes) = bytes
+held (outside a) = []
 
 -- what a load comes to: the number, or the first address that is outside
 pub data Loaded : Type 0 where

@@ -124,7 +124,7 @@ impl<'a> Memory<'a> {
     pub fn load(&self, w: Size, a: u32) -> Result<u32, Outside>
         ensures { load_of self.now.constants.now self.now.area.now w a ≡ loaded_as result }
     {
-        let part = self.read(width::bytes(w), a)?;
+        let part = self.read(w.bytes(), a)?;
         Ok(number(part, w))
     }
 
@@ -137,7 +137,7 @@ impl<'a> Memory<'a> {
         ensures err { OnErr result (self.new.area.now ≡ self.old.area.now) }
         ensures same_areas { SameAreas self.old self.new }
     {
-        let Some(at) = locate(DATA, self.area.len(), width::bytes(w), a) else {
+        let Some(at) = locate(DATA, self.area.len(), w.bytes(), a) else {
             return Err(Outside {
                 address: first_outside(DATA, self.area.len(), a),
             });

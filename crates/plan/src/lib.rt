@@ -1,18 +1,21 @@
 //! The plan of a step: which operation, at which size, on which operands, and where it goes on.
 #![tactic(auto)]
 
-ghost use Rattle.std.specs.Prelude.{◌≡◌, ◌^◌, ◌<◌};
+ghost use Rattle.std.specs.Prelude.{◌≡◌, ◌%◌, ◌^◌};
 ghost use Rattle.plan.specs.Addresses.{scaled_index, base_register, address_base, effective_address};
 ghost use Rattle.plan.specs.Plans.{size_of, operand_of, is_offset, offset_alone, address_in, next_of, plan_for, leads, plan_of};
 
 use grammar::instruction::Decoded;
+use grammar::relative::relative_of;
 use grammar::rule::Repeat;
 use machine::registers::Machine;
+use sense::operations::operation;
+use sense::table::sense;
 use sense::{Operation, Place, Sense};
 use width::Size;
 
 /// An operand: a part of a register, the memory at the effective address, or a number.
-#[derive(Clone, Copy)]
+#[derive(Clone, Copy, Debug, PartialEq, Eq)]
 pub enum Operand {
     Register(u32),
     Memory,
@@ -20,7 +23,7 @@ pub enum Operand {
 }
 
 /// What an effective address is computed from.
-#[derive(Clone, Copy)]
+#[derive(Clone, Copy, Debug, PartialEq, Eq)]
 pub struct Address {
     pub modrm: u8,
     pub sib: u8,
@@ -44,16 +47,16 @@ pub struct Plan {
     pub address: Address,
 }
 
-/// A SIB byte's index: the register times 1, 2, 4 or 8; index 4 is none.
-#[tactic(auto, using(crate::proofs::Indexes::no_index, crate::proofs::Indexes::shifted, crate::proofs::Indexes::shifted_below))]
-fn scaled_index(m: &Machine, sib: u8) -> u64
-    ensures { (result ≡ scaled_index m.now sib) × (result < 2 ^ 35) }
+/// A SIB byte's index modulo 2^32: the register times 1, 2, 4 or 8; index 4 is none.
+#[tactic(auto, using(crate::proofs::Indexes::no_index, crate::proofs::Indexes::shifted))]
+fn scaled_index(m: &Machine, sib: u8) -> u32
+    ensures { result ≡ scaled_index m.now sib % 2 ^ 32 }
 {
-    let index = (sib / 8 % 8) as u32;
+    let index = u32::from(sib / 8 % 8);
     if index == 4 {
         return 0;
     }
-    (m.register(index) as u64) << (sib / 64)
+    m.register(index) << (sib / 64)
 }
 
 /// A base register by its number; with Mod 0 number 5 is none.
@@ -68,25 +71,25 @@ fn base_register(m: &Machine, modrm: u8, i: u32) -> u32
     }
 }
 
-/// What the displacement is added to: with R/M 4 what the SIB byte says, else a base register.
+/// What the displacement is added to, modulo 2^32: with R/M 4 what the SIB byte says, else a base register.
 #[tactic(auto, unfolding(crate::specs::Addresses::address_base))]
-fn address_base(m: &Machine, modrm: u8, sib: u8) -> u64
-    ensures { (result ≡ address_base m.now modrm sib) × (result < 2 ^ 36) }
+fn address_base(m: &Machine, modrm: u8, sib: u8) -> u32
+    ensures { result ≡ address_base m.now modrm sib % 2 ^ 32 }
 {
-    let rm = (modrm % 8) as u32;
+    let rm = u32::from(modrm % 8);
     if rm == 4 {
-        return base_register(m, modrm, (sib % 8) as u32) as u64 + scaled_index(m, sib);
+        let base = base_register(m, modrm, u32::from(sib % 8));
+        return base.wrapping_add(scaled_index(m, sib));
     }
-    base_register(m, modrm, rm) as u64
+    base_register(m, modrm, rm)
 }
 
 /// The effective address, from the registers before the instruction.
-#[tactic(auto, unfolding(crate::specs::Addresses::effective_address))]
+#[tactic(auto, unfolding(crate::specs::Addresses::effective_address, width::specs::Numbers::rest, width::specs::Numbers::residue, width::specs::Sizes::modulus, width::specs::Sizes::bits))]
 pub fn effective_address(m: &Machine, a: Address) -> u32
     ensures { result ≡ effective_address m.now a }
 {
-    let base = address_base(m, a.modrm, a.sib);
-    width::low(Size::Dword, base + a.displacement as u64)
+    address_base(m, a.modrm, a.sib).wrapping_add(a.displacement)
 }
 
 /// Bytes; else words under 66, and doublewords without.
@@ -94,10 +97,12 @@ pub fn effective_address(m: &Machine, a: Address) -> u32
 pub fn size_of(byte: bool, narrow: bool) -> Size
     ensures { result ≡ size_of byte narrow }
 {
-    match (byte, narrow) {
-        (true, _) => Size::Byte,
-        (false, true) => Size::Word,
-        (false, false) => Size::Dword,
+    if byte {
+        Size::Byte
+    } else if narrow {
+        Size::Word
+    } else {
+        Size::Dword
     }
 }
 
@@ -110,16 +115,16 @@ pub fn operand_at(place: Place, d: Decoded, w: Size) -> Operand
         Place::Absent => Operand::Number(0),
         Place::Rm => {
             if d.modrm / 64 == 3 {
-                Operand::Register((d.modrm % 8) as u32)
+                Operand::Register(u32::from(d.modrm % 8))
             } else {
                 Operand::Memory
             }
         }
-        Place::Reg => Operand::Register((d.modrm / 8 % 8) as u32),
+        Place::Reg => Operand::Register(u32::from(d.modrm / 8 % 8)),
         Place::Accumulator => Operand::Register(0),
         Place::OpcodeRegister => Operand::Register((d.opcode % 8) as u32),
         Place::Immediate => Operand::Number(d.immediate),
-        Place::SignedImmediate => Operand::Number(width::sign_extended(Size::Byte, w, d.immediate)),
+        Place::SignedImmediate => Operand::Number(Size::Byte.sign_extended(w, d.immediate)),
         Place::Offset => Operand::Memory,
         Place::One => Operand::Number(1),
         Place::Cl => Operand::Register(1),
@@ -166,8 +171,7 @@ fn address_in(s: Sense, d: Decoded) -> Address
 pub fn next_of(eip: u32, d: Decoded) -> u32
     ensures { result ≡ next_of eip d }
 {
-    let size = (d.length % 0x1_0000_0000) as u64;
-    width::low(Size::Dword, eip as u64 + size)
+    eip.wrapping_add((d.length % 0x1_0000_0000) as u32)
 }
 
 /// The plan, from what the opcode means, its operation and its size.
@@ -189,13 +193,13 @@ pub fn plan_for(eip: u32, d: Decoded, s: Sense, operation: Operation, w: Size, t
 }
 
 /// Where a displacement leads from the next instruction; with none, on.
-#[tactic(auto, unfolding(crate::specs::Plans::leads))]
+#[tactic(auto, unfolding(crate::specs::Plans::leads, width::specs::Numbers::rest, width::specs::Numbers::residue, width::specs::Sizes::modulus, width::specs::Sizes::bits))]
 fn lead(relative: Option<u32>, next: u32) -> u32
     ensures { result ≡ leads relative next }
 {
     match relative {
         None => next,
-        Some(displacement) => width::low(Size::Dword, next as u64 + displacement as u64),
+        Some(displacement) => next.wrapping_add(displacement),
     }
 }
 
@@ -204,9 +208,8 @@ fn lead(relative: Option<u32>, next: u32) -> u32
 pub fn plan_of(eip: u32, d: Decoded) -> Plan
     ensures { result ≡ plan_of eip d }
 {
-    let s = sense::table::sense(d.opcode);
-    let operation = sense::operations::operation(s.kind, d.opcode, (d.modrm / 8 % 8) as u32);
-    let w = size_of(s.byte, d.narrow);
-    let target = lead(grammar::relative::relative_of(d), next_of(eip, d));
-    plan_for(eip, d, s, operation, w, target)
+    let s = sense(d.opcode);
+    let operation = operation(s.kind, d.opcode, u32::from(d.modrm / 8 % 8));
+    let target = lead(relative_of(d), next_of(eip, d));
+    plan_for(eip, d, s, operation, size_of(s.byte, d.narrow), target)
 }

@@ -2,12 +2,11 @@
 #![tactic(auto)]
 
 ghost use Rattle.std.specs.Prelude.{◌≡◌, [], ◌∷◌, ◌+◌, ◌<◌, ◌≤◌, ◌^◌, length};
-ghost use Rattle.blockcheck.specs.Blocks.{number_of, value_of};
+ghost use Rattle.std.proofs.lemmas.List.Edits.{sets};
 ghost use Rattle.run.specs.Steps.{fixed_to};
 ghost use Rattle.run.specs.Runs.{told};
 ghost use Rattle.sangolid.specs.Interface.{lent_of, state_of, call_of, Calls, Checks, word_of, Unhexes};
 
-use blockcheck::Verdict;
 use run::{Lent, Ran};
 use scalar::Xmm;
 
@@ -87,35 +86,6 @@ pub fn sangolid_run(
     ran.number()
 }
 
-// The paper's number of an answer; 0 for acceptance.
-fn number_of(v: Verdict) -> u32
-    ensures { result ≡ number_of v }
-{
-    match v {
-        Verdict::Accepted(_) => 0,
-        Verdict::BadLength => 10,
-        Verdict::BadMarks => 14,
-        Verdict::CutAt(_) => 21,
-        Verdict::UnknownAt(_) => 22,
-        Verdict::AstrayAt(_) => 23,
-    }
-}
-
-// The count of instructions, or the paper's offset.
-fn value_of(v: Verdict) -> u32
-    requires { value_of v < 2 ^ 32 }
-    ensures { result ≡ value_of v }
-{
-    match v {
-        Verdict::Accepted(n) => n as u32,
-        Verdict::BadLength => 0,
-        Verdict::BadMarks => 0,
-        Verdict::CutAt(i) => i as u32,
-        Verdict::UnknownAt(i) => i as u32,
-        Verdict::AstrayAt(i) => i as u32,
-    }
-}
-
 // Checks the block, marks its starts, and puts the count or the offset into the answer.
 pub fn sangolid_check(code: &[u8], marks: &mut [u8], answer: &mut [u32]) -> u32
     ensures { Checks code.now marks.old answer.old result marks.new answer.new }
@@ -123,9 +93,16 @@ pub fn sangolid_check(code: &[u8], marks: &mut [u8], answer: &mut [u32]) -> u32
     if answer.len() != 1 {
         return 90;
     }
-    let v = blockcheck::check(code, marks);
-    answer[0] = value_of(v);
-    number_of(v)
+    match blockcheck::check(code, marks) {
+        Ok(count) => {
+            answer[0] = count as u32;
+            0
+        }
+        Err(refusal) => {
+            answer[0] = refusal.offset() as u32;
+            refusal.number()
+        }
+    }
 }
 
 // A code's length or a line as a word; one that no word holds is FFFFFFFFh.
@@ -145,7 +122,14 @@ pub fn sangolid_hex(text: &[u8], code: &mut [u8], answer: &mut [u32]) -> u32
     if answer.len() != 1 {
         return 90;
     }
-    let read = intel_hex::read(text, code);
-    answer[0] = word_of(intel_hex::value_of(read));
-    intel_hex::number_of(read)
+    match intel_hex::read(text, code) {
+        Ok(size) => {
+            answer[0] = word_of(size);
+            0
+        }
+        Err(refused) => {
+            answer[0] = word_of(refused.line);
+            refused.fault.number()
+        }
+    }
 }

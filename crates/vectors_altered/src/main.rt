@@ -1,4 +1,4 @@
-// The vectors' program over altered cases: each is named with the field that was altered.
+//! The vectors' program over altered cases: each is named with the field that was altered.
 #![tactic(auto)]
 
 fn main(rt: HostRuntime) {

@@ -16,7 +16,7 @@ bit_at-requires-in-Rcr c =
 pub returns-in-Rol : goal.returns-in-Rol
 unfolding carry_after
 returns-in-Rol c =
-    rw (c.bit_at.ensures, c.requires.r_value, c.in-Rol.is)
+    rw (c.bit_at.ensures, c.from.ensures, c.requires.r_value, c.in-Rol.is)
 
 pub returns-in-Ror : goal.returns-in-Ror
 unfolding carry_after
@@ -60,10 +60,11 @@ returns-in-Shr c =
       c.in-Shr.is,
       c.unless_all_out-in-Shr.ensures,
       c.bit_at-in-Shr.ensures,
+      c.from-in-Shr.ensures,
       c.shifted_right.ensures.is,
     )
 
 pub returns-in-Sar : goal.returns-in-Sar
 unfolding carry_after shifted
 returns-in-Sar c =
-    rw (c.in-Sar.is, c.bit_at-in-Sar.ensures, c.shifted_right_signed.ensures.is)
+    rw (c.in-Sar.is, c.bit_at-in-Sar.ensures, c.from-in-Sar.ensures, c.shifted_right_signed.ensures.is)

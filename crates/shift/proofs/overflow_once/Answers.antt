@@ -23,6 +23,7 @@ returns-in-Ror c =
     simp (
       c.in-Ror.is,
       c.bit_at-second.ensures,
+      c.from.ensures,
       c.bits.ensures,
       c.negative-top.ensures,
     )
@@ -38,6 +39,7 @@ returns-in-Rcr c =
     simp (
       c.in-Rcr.is,
       c.bit_at-second.ensures,
+      c.from.ensures,
       c.bits.ensures,
       c.negative-top.ensures,
     )

@@ -11,7 +11,7 @@ unfolding modulus
 turned_right-requires c =
     let sizes = few c.args.w
     in
-    rw c.bits.ensures (record { b_bound = omega arith; k_le_b = search rules; x_bound = c.requires.v_bound })
+    rw (c.bits.ensures, c.from.ensures) (record { b_bound = omega arith; k_le_b = search rules; x_bound = c.requires.v_bound })
 
 pub overflow_cast-result : goal.overflow_cast-result
 unfolding modulus
@@ -23,4 +23,4 @@ overflow_cast-result c =
 pub returns : goal.returns
 unfolding modulus
 returns c =
-    let t = rw c.bits.ensures at c.turned_right.ensures in record { is = t.is; below = t.below }
+    let t = rw (c.bits.ensures, c.from.ensures) at c.turned_right.ensures in record { is = t.is; below = t.below }

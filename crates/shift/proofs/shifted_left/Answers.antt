@@ -7,4 +7,4 @@ pub returns : goal.returns
 returns c =
     let a = c.args
     in
-    rw (← shl_exact {a = a.v} 32 a.k 64 (search rules) (search rules)) c.low.ensures
+    rw (← c.from.ensures, ← shl_exact {a = c.from.result} 32 a.k 64 (search rules) (search rules)) c.low.ensures

@@ -15,9 +15,9 @@ bit_at-requires-in-Shrd c =
 pub returns-in-Shld : goal.returns-in-Shld
 unfolding last_out
 returns-in-Shld c =
-    rw (c.in-Shld.is, c.bit_at.ensures, c.bits.ensures)
+    rw (c.in-Shld.is, c.bit_at.ensures, c.from.ensures, c.bits.ensures)
 
 pub returns-in-Shrd : goal.returns-in-Shrd
 unfolding last_out
 returns-in-Shrd c =
-    rw (c.in-Shrd.is, c.bit_at-in-Shrd.ensures)
+    rw (c.in-Shrd.is, c.bit_at-in-Shrd.ensures, c.from-in-Shrd.ensures)

@@ -1,5 +1,5 @@
 -- `grammar::rows::row` meets its contract: the table says what the lists say, one opcode after the other.
-use Rattle.std.proofs.Common.{refl, sym, ap, ◌∙◌, ℕ, ◌≡◌}
+use Rattle.std.proofs.Common.{refl, sym, ap, ◌∙◌, ◌≡◌}
 use Rattle.std.proofs.lemmas.List.{get_or_past, get_or_default}
 use Rattle.grammar.specs.Opcodes.{listed}
 use Rattle.grammar.specs.Choice.{pick}

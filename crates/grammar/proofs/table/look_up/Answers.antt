@@ -1,5 +1,5 @@
 -- `grammar::table::look_up` meets its contract: the rows' rules are those of the lists, one opcode after the other.
-use Rattle.std.proofs.Common.{refl, sym, ap, ◌∙◌, get_or, ℕ, ◌≡◌, ◌≤◌, Option, Some, None}
+use Rattle.std.proofs.Common.{refl, sym, ap, ◌∙◌, get_or, ℕ, ◌≡◌, ◌≤◌, None}
 use denote.Enum.Declared.{tag_of}
 use Rattle.grammar.specs.contracts.rule.Row as R
 use Rattle.grammar.specs.declared.rule.Row.{Row}

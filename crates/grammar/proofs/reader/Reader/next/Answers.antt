@@ -1,5 +1,4 @@
 -- `grammar::reader::Reader::next` meets its contract, as `read` does.
-use Rattle.grammar.specs.Decoding.{Decodes}
 use Rattle.grammar.proofs.Lefts.{decodes_left}
 use Rattle.grammar.proofs.reader.Reader.next.Goals as goal
 
