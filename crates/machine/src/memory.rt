@@ -119,7 +119,8 @@ impl<'a> Memory<'a> {
     }
 
     /// A load of a number of the size.
-    #[inline(always)]
+    // A call of its own: written out at each use it would take 3 KB of ROM more.
+    #[inline(never)]
     #[tactic(auto, unfolding(crate::specs::Memory::load_of, crate::specs::Memory::numbered))]
     pub fn load(&self, w: Size, a: u32) -> Result<u32, Outside>
         ensures { load_of self.now.constants.now self.now.area.now w a ≡ loaded_as result }
@@ -129,7 +130,6 @@ impl<'a> Memory<'a> {
     }
 
     /// A store of a number of the size, to data only; refused, it changes nothing.
-    #[inline(always)]
     #[tactic(auto, unfolding(crate::specs::Memory::stored_of, crate::specs::Memory::store_of, crate::specs::Memory::place_of, crate::specs::Memory::holds, crate::specs::Memory::data_base))]
     pub fn store(&mut self, w: Size, a: u32, v: u32) -> Result<(), Outside>
         ensures answer { stored_of self.old.area.now w a ≡ stored_as result }
