@@ -1,8 +1,7 @@
 // The C interface: a run, a block check and the reading of a hex file, over areas that the caller lends.
 #![tactic(auto)]
 
-ghost use Rattle.std.specs.Prelude.{◌≡◌, [], ◌∷◌, ◌+◌, ◌<◌, ◌≤◌, ◌^◌, length};
-ghost use Rattle.std.proofs.lemmas.List.Edits.{sets};
+ghost use Rattle.std.specs.Prelude.{◌≡◌, ◌<◌, ◌^◌, length};
 ghost use Rattle.run.specs.Steps.{fixed_to};
 ghost use Rattle.run.specs.Runs.{told};
 ghost use Rattle.sangolid.specs.Interface.{lent_of, state_of, call_of, Calls, Checks, word_of, Unhexes};
