@@ -1,4 +1,4 @@
-// The C interface: a run, a block check and the reading of a hex file, over areas that the caller lends.
+//! The C interface: a run, a block check and the reading of a hex file, over areas that the caller lends.
 #![tactic(auto)]
 
 ghost use Rattle.std.specs.Prelude.{◌≡◌, ◌<◌, ◌^◌, length};
@@ -8,6 +8,9 @@ ghost use Rattle.sangolid.specs.Interface.{lent_of, state_of, call_of, Calls, Ch
 
 use run::{Lent, Ran};
 use scalar::Xmm;
+
+/// What a state or an answer area of another length is refused with; nothing is changed.
+const MISFIT: u32 = 90;
 
 /// The machine in the first eighteen words of the state.
 #[tactic(auto, unfolding(crate::specs::Interface::lent_of))]
@@ -78,19 +81,19 @@ pub fn sangolid_run(
     ensures { Calls (call_of state.old (fixed_to code.now constants.now) area.old budget) result state.new area.new }
 {
     if state.len() != 20 {
-        return 90;
+        return MISFIT;
     }
     let ran = run::run(lent(state), code, constants, area, budget);
     state.copy_from_slice(&state_of(&ran));
     ran.number()
 }
 
-// Checks the block, marks its starts, and puts the count or the offset into the answer.
+/// Checks the block, marks its starts, and puts the count or the offset into the answer.
 pub fn sangolid_check(code: &[u8], marks: &mut [u8], answer: &mut [u32]) -> u32
     ensures { Checks code.now marks.old answer.old result marks.new answer.new }
 {
     if answer.len() != 1 {
-        return 90;
+        return MISFIT;
     }
     match blockcheck::check(code, marks) {
         Ok(count) => {
@@ -104,7 +107,7 @@ pub fn sangolid_check(code: &[u8], marks: &mut [u8], answer: &mut [u32]) -> u32
     }
 }
 
-// A code's length or a line as a word; one that no word holds is FFFFFFFFh.
+/// A code's length or a line as a word; one that no word holds is FFFFFFFFh.
 fn word_of(n: usize) -> u32
     ensures { result ≡ word_of n }
 {
@@ -114,12 +117,12 @@ fn word_of(n: usize) -> u32
     0xFFFF_FFFF
 }
 
-// Reads a hex file into the code area, and puts the code's length or the line into the answer.
+/// Reads a hex file into the code area, and puts the code's length or the line into the answer.
 pub fn sangolid_hex(text: &[u8], code: &mut [u8], answer: &mut [u32]) -> u32
     ensures { Unhexes text.now code.old answer.old result code.new answer.new }
 {
     if answer.len() != 1 {
-        return 90;
+        return MISFIT;
     }
     match intel_hex::read(text, code) {
         Ok(size) => {
