@@ -7,7 +7,7 @@ pub mod step;
 
 ghost use Rattle.std.specs.Prelude.{◌≡◌};
 ghost use Rattle.run.specs.Steps.{fixed_to};
-ghost use Rattle.run.specs.Runs.{Runs, run_from, opened, closed, run_of, told, number_at, address_at};
+ghost use Rattle.run.specs.Runs.{Runs, run_from, run_of, told, number_at, address_at};
 ghost use Rattle.run.specs.Ends.{ended};
 
 use crate::refusal::admit;
@@ -28,18 +28,21 @@ pub struct Lent {
     pub word: u32,
 }
 
-impl Lent {
-    /// The machine, with its flags by the word.
+/// The machine that is lent, with its flags by the word.
+impl From<Lent> for Machine {
+    ghost use Rattle.std.specs.Prelude.{◌≡◌};
+    ghost use Rattle.run.specs.Runs.{opened};
+
+    ghost from_gives = { λ l m. m ≡ opened l };
+
     #[tactic(auto, unfolding(crate::specs::Runs::opened))]
-    fn open(self) -> Machine
-        ensures { result ≡ opened self }
-    {
+    fn from(l: Lent) -> Machine {
         let Lent {
             regs,
             xmm,
             eip,
             word,
-        } = self;
+        } = l;
         Machine {
             regs,
             xmm,
@@ -47,17 +50,24 @@ impl Lent {
             flags: Word::of_bits(word),
         }
     }
+}
 
-    /// A machine as it is handed back: the word of its flags has no other bit.
+/// A machine as it is handed back: the word of its flags has no other bit.
+impl From<Machine> for Lent {
+    ghost use Rattle.std.specs.Prelude.{◌≡◌};
+    ghost use Rattle.run.specs.Runs.{closed};
+
+    ghost from_gives = { λ m l. l ≡ closed m };
+
     #[tactic(auto, unfolding(crate::specs::Runs::closed))]
-    fn close(m: &Machine) -> Lent
-        ensures { result ≡ closed m.now }
-    {
+    fn from(m: Machine) -> Lent {
+        let word = flags::pack(m.flags.unpack());
+        let Machine { regs, xmm, eip, .. } = m;
         Lent {
-            regs: m.regs,
-            xmm: m.xmm,
-            eip: m.eip,
-            word: flags::pack(m.flags().unpack()),
+            regs,
+            xmm,
+            eip,
+            word,
         }
     }
 }
@@ -150,11 +160,11 @@ pub fn run(l: Lent, code: &[u8], constants: &[u8], area: &mut [u8], budget: u64)
             end: End::Refused(refusal),
         };
     }
-    let mut m = l.open();
+    let mut m = Machine::from(l);
     let mut memory = Memory { constants, area };
     let (steps, end) = steps(code, &mut m, &mut memory, budget);
     Ran {
-        machine: Lent::close(&m),
+        machine: Lent::from(m),
         steps,
         end,
     }

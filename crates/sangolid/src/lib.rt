@@ -1,7 +1,7 @@
 //! The C interface: a run, a block check and the reading of a hex file, over areas that the caller lends.
 #![tactic(auto)]
 
-ghost use Rattle.std.specs.Prelude.{◌≡◌, [], ◌∷◌, ◌+◌, ◌<◌, ◌≤◌, ◌^◌, length};
+ghost use Rattle.std.specs.Prelude.{◌≡◌, ◌<◌, ◌^◌, length};
 ghost use Rattle.run.specs.Steps.{fixed_to};
 ghost use Rattle.run.specs.Runs.{told};
 ghost use Rattle.sangolid.specs.Interface.{lent_of, state_of, call_of, Calls, Checks, word_of, Unhexes};
@@ -9,7 +9,7 @@ ghost use Rattle.sangolid.specs.Interface.{lent_of, state_of, call_of, Calls, Ch
 use run::{Lent, Ran};
 use scalar::Xmm;
 
-/// The number of a length that does not fit.
+/// What a state or an answer area of another length is refused with; nothing is changed.
 const MISFIT: u32 = 90;
 
 /// The machine in the first eighteen words of the state.
