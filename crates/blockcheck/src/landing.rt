@@ -4,12 +4,10 @@ ghost use Rattle.grammar.specs.Relative.{relative_of};
 ghost use Rattle.blockcheck.specs.Blocks.{target_of, Lands, Arrives};
 ghost use Rattle.blockcheck.specs.Passes.{Tells, Shows, Whole, Looks, Sought};
 
+use crate::CODE;
 use grammar::instruction::Decoded;
 use grammar::reader::read;
 use grammar::relative::relative_of;
-
-/// Where the code lies.
-const CODE: u32 = 0x1_0000;
 
 /// The address that a displacement leads to, from an instruction's offset and length.
 fn leads_to(at: usize, size: usize, displacement: u32) -> u32

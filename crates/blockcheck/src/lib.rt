@@ -13,6 +13,12 @@ use crate::dividing::divide;
 use crate::landing::first_astray;
 use crate::marks::finish;
 
+/// The address of the code's first byte.
+pub const CODE: u32 = 0x0001_0000;
+
+/// The most bytes of code.
+pub const MOST_BYTES: usize = 65_536;
+
 /// Why a block is refused.
 #[derive(Clone, Copy, Debug, PartialEq, Eq)]
 pub enum Refusal {
@@ -71,7 +77,7 @@ fn judge(code: &[u8], marks: &mut [u8]) -> Result<usize, Refusal>
 pub fn check(code: &[u8], marks: &mut [u8]) -> Result<usize, Refusal>
     ensures { Judged code.now marks.old (number_of result) (value_of result) marks.new }
 {
-    if code.is_empty() || code.len() > 65536 {
+    if code.is_empty() || MOST_BYTES < code.len() {
         return Err(Refusal::Length);
     }
     if marks.len() != code.len() {

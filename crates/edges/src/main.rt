@@ -2,6 +2,7 @@
 //! A write that fails is dropped.
 #![tactic(auto)]
 
+use blockcheck::CODE;
 use machine::memory::Memory;
 use machine::registers::{EAX, ECX, EDI, ESI};
 use run::{Lent, Ran, run};
@@ -14,7 +15,7 @@ fn lent(ecx: u32, esi: u32, edi: u32) -> Lent {
     Lent {
         regs: [0, ecx, 0, 0, 0, 0, esi, edi],
         xmm: [Xmm { bits: 0 }; 8],
-        eip: 0x0001_0000,
+        eip: CODE,
         word: 0x0002,
     }
 }

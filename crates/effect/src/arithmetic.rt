@@ -64,7 +64,7 @@ fn binary(op: Binary, w: Size, a: u32, b: u32, f: &Word) -> Reckoned
 
 /// 003 "TEST": the flags of DEST AND SRC.
 #[inline(always)]
-#[tactic(auto, unfolding(crate::specs::Arithmetic::test))]
+#[tactic(auto, using(crate::proofs::Reckoned::tested))]
 fn test(w: Size, a: u32, b: u32, f: &Word) -> Reckoned
     ensures { result ≡ reckoned_as (Op.test w a b f.now) }
 {

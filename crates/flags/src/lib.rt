@@ -25,6 +25,7 @@ pub struct Flags {
 }
 
 /// The flags word of the flags.
+// Beside `Word`, which has the same flags and says nothing of the other bits: what is handed out is this very word.
 pub fn pack(f: Flags) -> u32
     ensures { W.Word f result }
 {

@@ -21,6 +21,7 @@ impl Image {
         requires { from + line.now.count ≤ 65536 }
         ensures { (bytes : List (ℕ × ℕ)) → Shows bytes self.old.cells → Lays (given_from (code_base + from) (bytes_at line.now.bytes.now 9 line.now.count)) bytes result self.new.cells }
     {
+        // By place, for the same reason as in `copy_to`.
         for k in 0..line.count {
             let byte = line.data(k);
             let given = self.cells[from + k];

@@ -13,6 +13,7 @@ const CODE: usize = 0x0001_0000;
 const MOST: usize = 65536;
 
 /// What is known after some lines: whether an end record was among them, the upper half, the code's length so far.
+// `ended` is a state of its own: no other field hangs on it.
 #[derive(Clone, Copy)]
 pub struct File {
     pub ended: bool,

@@ -66,6 +66,7 @@ fn put(area: &mut [u8], at: usize, w: Size, v: u32)
     requires { at + bytes w ≤ length area.old }
     ensures { area.new ≡ sets area.old at (bytes_of (bytes w) v) }
 {
+    // Byte by byte: with `to_le_bytes` and `copy_from_slice` an arm's clause stays open.
     match w {
         Size::Byte => area[at] = (v & 0xFF) as u8,
         Size::Word => {

@@ -20,7 +20,8 @@ use flags::Word;
 use scalar::Xmm;
 use width::Size;
 
-// The numbers of the registers, and of AH among the bytes AL CL DL BL AH CH DH BH.
+// Registers stay numbers, as the manual encodes them: among the bytes 0 to 7 are AL CL DL BL AH CH DH BH, so an enum would need a second one by size.
+
 pub const EAX: u32 = 0;
 
 pub const ECX: u32 = 1;

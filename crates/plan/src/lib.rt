@@ -8,7 +8,7 @@ ghost use Rattle.plan.specs.Plans.{size_of, operand_of, is_offset, offset_alone,
 use grammar::instruction::Decoded;
 use grammar::relative::relative_of;
 use grammar::rule::Repeat;
-use machine::registers::Machine;
+use machine::registers::{EAX, ECX, Machine};
 use sense::operations::operation;
 use sense::table::sense;
 use sense::{Operation, Place, Sense};
@@ -121,13 +121,13 @@ pub fn operand_at(place: Place, d: Decoded, w: Size) -> Operand
             }
         }
         Place::Reg => Operand::Register(u32::from(d.modrm / 8 % 8)),
-        Place::Accumulator => Operand::Register(0),
+        Place::Accumulator => Operand::Register(EAX),
         Place::OpcodeRegister => Operand::Register((d.opcode % 8) as u32),
         Place::Immediate => Operand::Number(d.immediate),
         Place::SignedImmediate => Operand::Number(Size::Byte.sign_extended(w, d.immediate)),
         Place::Offset => Operand::Memory,
         Place::One => Operand::Number(1),
-        Place::Cl => Operand::Register(1),
+        Place::Cl => Operand::Register(ECX),
     }
 }
 

@@ -39,7 +39,7 @@ pub struct Parts {
     pub remainder: u32,
 }
 
-/// A signed number by its sign and its magnitude.
+/// A signed number by its sign and its magnitude: it lies between -2^63 and 2^64, which no `i64` holds.
 #[derive(Clone, Copy, Debug, PartialEq, Eq)]
 struct Signed {
     negative: bool,

@@ -3,6 +3,8 @@ ghost use Rattle.std.specs.Prelude.{◌≡◌};
 ghost use Rattle.run.specs.Runs.{number_of, refusal};
 ghost use Rattle.run.specs.Ends.{refused_with};
 
+use blockcheck::MOST_BYTES;
+
 /// Why a run is refused: 65,536 bytes at most of code, which has one at least, of data and of constants; the flags word; 1,000,000 steps at most.
 #[derive(Clone, Copy, Debug, PartialEq, Eq)]
 pub enum Refusal {
@@ -29,8 +31,8 @@ impl Refusal {
     }
 }
 
-/// The most bytes of code, of data or of constants.
-const MOST_BYTES: usize = 65_536;
+/// The most bytes of data, and of constants.
+const MOST_LENT: usize = 65_536;
 
 /// The most steps.
 const MOST_STEPS: u64 = 1_000_000;
@@ -49,10 +51,10 @@ pub fn admit(
     if code_length == 0 || MOST_BYTES < code_length {
         return Err(Refusal::Code);
     }
-    if MOST_BYTES < area_length {
+    if MOST_LENT < area_length {
         return Err(Refusal::Data);
     }
-    if MOST_BYTES < constants_length {
+    if MOST_LENT < constants_length {
         return Err(Refusal::Constants);
     }
     if !flags::passes(word) {

@@ -2,6 +2,7 @@
 ghost use Rattle.std.specs.Prelude.{◌≡◌};
 ghost use Rattle.run.specs.Sites.{site_of, Keeps};
 
+use blockcheck::CODE;
 use effect::Stop;
 use grammar::instruction::Fault;
 use grammar::reader::read;
@@ -9,9 +10,6 @@ use plan::Plan;
 
 /// A block that returns here has ended.
 const HOME: u32 = 0xFFFF_0000;
-
-/// Where code lies, and upward.
-const CODE: u32 = 0x0001_0000;
 
 /// The plan of the instruction at an EIP.
 #[derive(Clone, Copy)]
@@ -46,6 +44,7 @@ pub fn plan_at(code: &[u8], kept: &mut [Option<Site>; 64], eip: u32) -> Result<P
     ensures plan { result ≡ site_of code.now eip }
     ensures kept { Keeps code.now kept.new }
 {
+    // The plan by value: handed by reference, with the step written out twice, each step takes a quarter longer.
     let slot = (eip % 64) as usize;
     if let Some(site) = &kept[slot] {
         if site.eip == eip {

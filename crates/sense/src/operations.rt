@@ -77,6 +77,7 @@ fn product_at(number: u32) -> Arithmetic
 fn inc_dec_at(number: u32) -> Arithmetic
     ensures { result ≡ inc_dec_at number }
 {
+    // A table of one word would be no plainer.
     match number {
         0 => Arithmetic::Single(Single::Inc),
         _ => Arithmetic::Single(Single::Dec),

@@ -21,6 +21,7 @@ pub enum Kind {
 fn state_before(line: &[u8]) -> [u32; 20]
     ensures { result ≡ state_before line.now }
 {
+    // Word by word, in the order of the state: two ranges of fields joined would be no plainer.
     [
         number_32(line, 2),
         number_32(line, 3),

@@ -27,6 +27,7 @@ fn is_bytes(text: &[u8]) -> bool
 fn is_of(text: &[u8], sort: u8) -> bool
     ensures { result ≡ is_of (sort_of sort) text.now }
 {
+    // A letter a field, so that a line's form is a text as long as the line has fields: a list of enum variants would be no plainer.
     match sort {
         b'r' => text == b"run".as_slice(),
         b'c' => text == b"check".as_slice(),
