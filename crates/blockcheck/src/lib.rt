@@ -77,7 +77,7 @@ fn judge(code: &[u8], marks: &mut [u8]) -> Result<usize, Refusal>
 pub fn check(code: &[u8], marks: &mut [u8]) -> Result<usize, Refusal>
     ensures { Judged code.now marks.old (number_of result) (value_of result) marks.new }
 {
-    if code.is_empty() || MOST_BYTES < code.len() {
+    if code.is_empty() || code.len() > MOST_BYTES {
         return Err(Refusal::Length);
     }
     if marks.len() != code.len() {

@@ -6,7 +6,7 @@ use crate::Flags;
 use std::marker::Model;
 
 /// The flags as one word; in clauses they are `Flags`.
-#[derive(Drop)]
+#[derive(Clone, Drop)]
 pub struct Word {
     bits: u32,
 }

@@ -9,7 +9,7 @@ use crate::instruction::{Decoded, Fault};
 use std::marker::Model;
 
 /// The code, and how far it is read. Its value are the bytes that are left.
-#[derive(Drop)]
+#[derive(Clone, Drop)]
 pub struct Reader<'a> {
     code: &'a [u8],
     at: usize,

@@ -41,7 +41,7 @@ pub const EDI: u32 = 7;
 pub const AH: u32 = 4;
 
 /// The machine. In clauses its flags are `Flags`.
-#[derive(Drop)]
+#[derive(Clone, Drop)]
 pub struct Machine {
     pub regs: [u32; 8],
     pub xmm: [Xmm; 8],

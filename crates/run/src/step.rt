@@ -10,7 +10,7 @@ use machine::memory::Memory;
 use machine::registers::Machine;
 
 /// A step that stopped: the machine as it was, and why.
-#[derive(Drop)]
+#[derive(Clone, Drop)]
 pub struct Stopped {
     pub machine: Machine,
     pub stop: Stop,
@@ -19,7 +19,7 @@ pub struct Stopped {
 /// One step in place, with plans kept.
 #[inline(always)]
 #[tactic(auto, using(crate::proofs::Sites::step_is), unfolding(crate::specs::Sites::stepped))]
-pub fn kept_step(
+pub(crate) fn kept_step(
     code: &[u8],
     kept: &mut [Option<Site>; 64],
     m: &mut Machine,

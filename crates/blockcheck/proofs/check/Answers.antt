@@ -10,7 +10,7 @@ use borrow.Author.Tests.{eqb-true, eqb-false}
 use Rattle.blockcheck.specs.Blocks.{Sized, bad_length, bad_marks}
 use Rattle.blockcheck.specs.Passes.{Concluded}
 use Rattle.blockcheck.proofs.check.Goals as goal
-use Rattle.blockcheck.proofs.check.Goals.{then-is_empty-via-then-is_empty, then-is_empty-via-else-is_empty+then-code-gt65536}
+use Rattle.blockcheck.proofs.check.Goals.{then-is_empty-via-then-is_empty, then-is_empty-via-else-is_empty+then-code-gt-MOST_BYTES}
 
 -- code that is not empty has a length that is allowed
 sized : {code : List ℕ} → false ≡ eqb (length code) 0 → length code ≤ 65536 → Sized code
@@ -20,14 +20,14 @@ pub returns-then-is_empty : goal.returns-then-is_empty
 returns-then-is_empty c =
     bad_length (λ s. elim c.then-is_empty.branch [
       | then-is_empty-via-then-is_empty w ↦ omega (arith, s.some, eqb-true _ _ (sym c.is_empty.ensures ∙ w.if-is_empty.true))
-      | then-is_empty-via-else-is_empty+then-code-gt65536 w ↦ omega (arith, s.most, w.if-code-gt65536.true)
+      | then-is_empty-via-else-is_empty+then-code-gt-MOST_BYTES w ↦ omega (arith, s.most, w.if-code-gt-MOST_BYTES.true)
     ])
 
 pub returns-then-marks-code : goal.returns-then-marks-code
-returns-then-marks-code c = bad_marks (sized c.if-is_empty.ensures c.if-code-gt65536.false) c.if-marks-code.true
+returns-then-marks-code c = bad_marks (sized c.if-is_empty.ensures c.if-code-gt-MOST_BYTES.false) c.if-marks-code.true
 
 pub judge-judged-requires : goal.judge-judged-requires
-judge-judged-requires c = (sized c.if-is_empty.ensures c.if-code-gt65536.false, c.if-marks-code.false)
+judge-judged-requires c = (sized c.if-is_empty.ensures c.if-code-gt-MOST_BYTES.false, c.if-marks-code.false)
 
 pub returns : goal.returns
 unfolding Concluded
