@@ -1,7 +1,7 @@
--- `shift::flags_after` meets its contract: by what each part gives, for count 1 and for every other. Assumes nothing.
+-- `shift::Number::flags_after` meets its contract: by what each part gives, for count 1 and for every other. Assumes nothing.
 use borrow.Author.Tests.{eq-eqb, ne_eqb}
 use Rattle.shift.specs.Changes.{overflow_after, flags_after}
-use Rattle.shift.proofs.flags_after.Goals as goal
+use Rattle.shift.proofs.Number.flags_after.Goals as goal
 
 pub returns-then-k-eq1 : goal.returns-then-k-eq1
 unfolding flags_after overflow_after

@@ -1,7 +1,7 @@
--- `shift::shifted_left` meets its contract: 64 bits lose nothing of it. Assumes nothing.
+-- `shift::Number::shifted_left` meets its contract: 64 bits lose nothing of it. Assumes nothing.
 use lib.Pow.{shl_exact}
 use borrow.Author.Rules.{rules}
-use Rattle.shift.proofs.shifted_left.Goals as goal
+use Rattle.shift.proofs.Number.shifted_left.Goals as goal
 
 pub returns : goal.returns
 returns c =

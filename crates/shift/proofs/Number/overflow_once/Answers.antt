@@ -1,16 +1,16 @@
--- `shift::overflow_once` meets its contract: an instruction an arm. Assumes nothing.
+-- `shift::Number::overflow_once` meets its contract: an instruction an arm. Assumes nothing.
 use native.Mathlib.Omega.{arith}
 use Rattle.shift.proofs.Turns.{few}
 use Rattle.shift.specs.Changes.{overflow_once}
-use Rattle.shift.proofs.overflow_once.Goals as goal
+use Rattle.shift.proofs.Number.overflow_once.Goals as goal
 
 pub overflow_sub-bits : goal.overflow_sub-bits
 overflow_sub-bits c =
-    let sizes = few c.args.w in omega arith
+    let sizes = few c.args.self.size in omega arith
 
 pub bit_at-second-requires : goal.bit_at-second-requires
 bit_at-second-requires c =
-    let sizes = few c.args.w in omega arith
+    let sizes = few c.args.self.size in omega arith
 
 pub returns-in-Rol : goal.returns-in-Rol
 unfolding overflow_once
