@@ -1,6 +1,6 @@
--- `bits::doubles::flags_after` meets its contract: by what each part gives. Assumes nothing.
+-- `bits::doubles::Operands::flags_after` meets its contract: by what each part gives. Assumes nothing.
 use Rattle.bits.specs.Doubles.{flags_after}
-use Rattle.bits.proofs.doubles.flags_after.Goals as goal
+use Rattle.bits.proofs.doubles.Operands.flags_after.Goals as goal
 
 pub returns : goal.returns
 unfolding flags_after
