@@ -23,54 +23,62 @@ fn double(w: Size, high: u32, low: u32) -> u64
     (u64::from(high) << w.bits()) + u64::from(low)
 }
 
-/// d and s as one double number, moved by k: to the left by k is to the right by the rest of the width.
-fn double_moved(op: DoubleShift, w: Size, d: u32, s: u32, k: u32) -> u32
-    requires d_bound { d < modulus w }
-    requires s_bound { s < modulus w }
-    requires k_bound { k ≤ bits w }
-    ensures { Is w (double_moved op w d s k) result }
-{
-    match op {
-        DoubleShift::Shld => w.low(double(w, d, s) >> (w.bits() - k)),
-        DoubleShift::Shrd => w.low(double(w, s, d) >> k),
-    }
+/// The operands of a double shift: d and s, both of the size, and a count of 0 to the width.
+#[derive(Clone, Copy)]
+struct Operands {
+    size: Size,
+    d: u32,
+    s: u32,
+    count: u32,
+    ghost d_below: { d < modulus size },
+    ghost s_below: { s < modulus size },
+    ghost within: { count ≤ bits size },
 }
 
-/// The last bit that left d.
-fn last_out(op: DoubleShift, w: Size, d: u32, k: u32) -> bool
-    requires k_nonzero { 0 < k }
-    requires k_bound { k ≤ bits w }
-    ensures { result ≡ last_out op w d k }
-{
-    match op {
-        DoubleShift::Shld => bit_at(w.bits() - k, u64::from(d)),
-        DoubleShift::Shrd => bit_at(k - 1, u64::from(d)),
+impl Operands {
+    /// d and s as one double number, moved by the count: to the left by it is to the right by the rest of the width.
+    fn double_moved(self, op: DoubleShift) -> u32
+        ensures { Is self.size (double_moved op self.size self.d self.s self.count) result }
+    {
+        let w = self.size;
+        match op {
+            DoubleShift::Shld => w.low(double(w, self.d, self.s) >> (w.bits() - self.count)),
+            DoubleShift::Shrd => w.low(double(w, self.s, self.d) >> self.count),
+        }
     }
-}
 
-/// OF after a count k: d is the operand, r the result.
-fn overflow_after(w: Size, d: u32, r: u32, k: u32, old: bool) -> bool
-    ensures { result ≡ overflow_after w d r k old }
-{
-    if k == 1 {
-        w.negative(d) != w.negative(r)
-    } else {
-        flags::undefined(old)
+    /// The last bit that left d.
+    fn last_out(self, op: DoubleShift) -> bool
+        requires { 0 < self.count }
+        ensures { result ≡ last_out op self.size self.d self.count }
+    {
+        match op {
+            DoubleShift::Shld => bit_at(self.size.bits() - self.count, u64::from(self.d)),
+            DoubleShift::Shrd => bit_at(self.count - 1, u64::from(self.d)),
+        }
     }
-}
 
-/// The flags after a count of 1 to the width.
-fn flags_after(op: DoubleShift, w: Size, d: u32, s: u32, k: u32, old: Flags) -> Flags
-    requires d_bound { d < modulus w }
-    requires s_bound { s < modulus w }
-    requires k_nonzero { 0 < k }
-    requires k_bound { k ≤ bits w }
-    ensures { result ≡ flags_after op w d s k old }
-{
-    let r = double_moved(op, w, d, s, k);
-    let c = last_out(op, w, d, k);
-    let a = flags::undefined(old.af);
-    flags::resulting(w, r, c, a, overflow_after(w, d, r, k, old.of), old)
+    /// OF afterwards; r is the result.
+    fn overflow_after(self, r: u32, old: bool) -> bool
+        ensures { result ≡ overflow_after self.size self.d r self.count old }
+    {
+        if self.count == 1 {
+            self.size.negative(self.d) != self.size.negative(r)
+        } else {
+            flags::undefined(old)
+        }
+    }
+
+    /// The flags after a count that is not 0.
+    fn flags_after(self, op: DoubleShift, old: Flags) -> Flags
+        requires { 0 < self.count }
+        ensures { result ≡ flags_after op self.size self.d self.s self.count old }
+    {
+        let r = self.double_moved(op);
+        let c = self.last_out(op);
+        let a = flags::undefined(old.af);
+        flags::resulting(self.size, r, c, a, self.overflow_after(r, old.of), old)
+    }
 }
 
 /// The value of d shifted with s behind it, by any count.
@@ -80,7 +88,13 @@ pub fn double_value(op: DoubleShift, w: Size, d: u32, s: u32, count: u32) -> u32
     let k = count % 32;
     let own = w.low(u64::from(d));
     if k <= w.bits() {
-        double_moved(op, w, own, w.low(u64::from(s)), k)
+        Operands {
+            size: w,
+            d: own,
+            s: w.low(u64::from(s)),
+            count: k,
+        }
+        .double_moved(op)
     } else {
         own
     }
@@ -95,7 +109,13 @@ pub fn double_flags(op: DoubleShift, w: Size, d: u32, s: u32, count: u32, old: F
         return old;
     }
     if k <= w.bits() {
-        flags_after(op, w, w.low(u64::from(d)), w.low(u64::from(s)), k, old)
+        Operands {
+            size: w,
+            d: w.low(u64::from(d)),
+            s: w.low(u64::from(s)),
+            count: k,
+        }
+        .flags_after(op, old)
     } else {
         flags::all_undefined(old)
     }

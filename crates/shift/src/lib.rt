@@ -46,7 +46,6 @@ fn of_bits_and_carry(w: Size, k: u32) -> u32
     k % (w.bits() + 1)
 }
 
-// That a number is one of its size stays a clause: the definitions take the size and the number apart, so a struct of both would lengthen each contract.
 /// A number of b bits, turned right by k: its low k bits go to the top.
 fn turned_right(b: u32, k: u32, x: u64) -> u64
     requires b_bound { b ≤ 33 }
@@ -58,107 +57,6 @@ fn turned_right(b: u32, k: u32, x: u64) -> u64
     ((x - (high << k)) << (b - k)) + high
 }
 
-/// A number of the size, turned right by k.
-fn rotated(w: Size, v: u32, k: u32) -> u32
-    requires v_bound { v < modulus w }
-    requires k_bound { k ≤ bits w }
-    ensures { Is w (turned_right (bits w) k v) result }
-{
-    turned_right(w.bits(), k, u64::from(v)) as u32
-}
-
-/// The number with CF above its top bit, as RCL and RCR turn it.
-fn with_carry(w: Size, c: bool, v: u32) -> u64
-    requires { v < modulus w }
-    ensures { Carried w c v result }
-{
-    if c {
-        w.modulus() + u64::from(v)
-    } else {
-        u64::from(v)
-    }
-}
-
-/// CF and the number, turned right by k.
-fn through(w: Size, v: u32, k: u32, c: bool) -> u64
-    requires v_bound { v < modulus w }
-    requires k_bound { k ≤ bits w + 1 }
-    ensures { result ≡ turned_right (bits w + 1) k (with_carry w c v) }
-{
-    turned_right(w.bits() + 1, k, with_carry(w, c, v))
-}
-
-/// CF and the number, as RCL turns them.
-fn through_left(w: Size, v: u32, k: u32, c: bool) -> u64
-    requires { v < modulus w }
-    ensures { result ≡ through_left w v k c }
-{
-    through(w, v, w.bits() + 1 - of_bits_and_carry(w, k), c)
-}
-
-/// CF and the number, as RCR turns them.
-fn through_right(w: Size, v: u32, k: u32, c: bool) -> u64
-    requires { v < modulus w }
-    ensures { result ≡ through_right w v k c }
-{
-    through(w, v, of_bits_and_carry(w, k), c)
-}
-
-/// SHL: bits that pass the top are lost.
-fn shifted_left(w: Size, v: u32, k: u32) -> u32
-    requires { k < 32 }
-    ensures { Is w (rest w (pos (v * 2 ^ k))) result }
-{
-    w.low(u64::from(v) << k)
-}
-
-/// SHR: zeros come in at the top.
-fn shifted_right(w: Size, v: u32, k: u32) -> u32
-    requires v_bound { v < modulus w }
-    requires k_bound { k < 32 }
-    ensures { Is w (v / 2 ^ k) result }
-{
-    v >> k
-}
-
-/// SAR: the sign bit is copied, so of a negative number the complement is shifted.
-fn shifted_right_signed(w: Size, v: u32, k: u32) -> u32
-    requires v_bound { v < modulus w }
-    requires k_bound { k < 32 }
-    ensures { Is w (rest w (shr_z (signed w v) (2 ^ k))) result }
-{
-    if w.negative(v) {
-        let ones = (w.modulus() - 1) as u32;
-        ones - ((ones - v) >> k)
-    } else {
-        v >> k
-    }
-}
-
-/// The number v of the size, shifted or rotated by k; c is CF.
-fn shifted(op: Shift, w: Size, v: u32, k: u32, c: bool) -> u32
-    requires v_bound { v < modulus w }
-    requires k_bound { k < 32 }
-    ensures { Is w (shifted op w v k c) result }
-{
-    match op {
-        Shift::Rol => rotated(w, v, w.bits() - of_bits(w, k)),
-        Shift::Ror => rotated(w, v, of_bits(w, k)),
-        Shift::Rcl => w.low(through_left(w, v, k, c)),
-        Shift::Rcr => w.low(through_right(w, v, k, c)),
-        Shift::Shl => shifted_left(w, v, k),
-        Shift::Shr => shifted_right(w, v, k),
-        Shift::Sar => shifted_right_signed(w, v, k),
-    }
-}
-
-/// The value of a shift or rotate of v by any count; c is CF.
-pub fn shift_value(op: Shift, w: Size, v: u32, count: u32, c: bool) -> u32
-    ensures { Is w (shift_value op w v count c) result }
-{
-    shifted(op, w, w.low(u64::from(v)), count % 32, c)
-}
-
 /// CF after SHL or SHR: the last bit out, undefined by the width or more.
 fn unless_all_out(w: Size, k: u32, out: bool, old: bool) -> bool
     ensures { result ≡ unless_all_out w k out old }
@@ -167,42 +65,6 @@ fn unless_all_out(w: Size, k: u32, out: bool, old: bool) -> bool
         out
     } else {
         flags::undefined(old)
-    }
-}
-
-/// CF after a count that is not 0; r is the result, c CF before.
-fn carry_after(op: Shift, w: Size, v: u32, k: u32, c: bool, r: u32) -> bool
-    requires v_bound { v < modulus w }
-    requires k_nonzero { 0 < k }
-    requires k_bound { k < 32 }
-    requires r_value { r ≡ shifted op w v k c }
-    ensures { result ≡ carry_after op w v k c }
-{
-    match op {
-        Shift::Rol => bit_at(0, u64::from(r)),
-        Shift::Ror => w.negative(r),
-        Shift::Rcl => bit_at(w.bits(), through_left(w, v, k, c)),
-        Shift::Rcr => bit_at(w.bits(), through_right(w, v, k, c)),
-        Shift::Shl => unless_all_out(w, k, w.negative(shifted_left(w, v, k - 1)), c),
-        Shift::Shr => unless_all_out(w, k, bit_at(0, u64::from(shifted_right(w, v, k - 1))), c),
-        Shift::Sar => bit_at(0, u64::from(shifted_right_signed(w, v, k - 1))),
-    }
-}
-
-/// OF after count 1; v is the operand, r the result, c CF after.
-fn overflow_once(op: Shift, w: Size, v: u32, r: u32, c: bool) -> bool
-    ensures { result ≡ overflow_once op w v r c }
-{
-    let top = w.negative(r);
-    let second = bit_at(w.bits() - 2, u64::from(r));
-    match op {
-        Shift::Rol => top != c,
-        Shift::Ror => top != second,
-        Shift::Rcl => top != c,
-        Shift::Rcr => top != second,
-        Shift::Shl => top != c,
-        Shift::Shr => w.negative(v),
-        Shift::Sar => false,
     }
 }
 
@@ -230,20 +92,171 @@ fn changed(op: Shift, w: Size, r: u32, c: bool, o: bool, old: Flags) -> Flags
     }
 }
 
-/// The flags after a count of 1 to 31.
-fn flags_after(op: Shift, w: Size, v: u32, k: u32, old: Flags) -> Flags
-    requires v_bound { v < modulus w }
-    requires k_nonzero { 0 < k }
-    requires k_bound { k < 32 }
-    ensures { result ≡ flags_after op w v k old }
-{
-    let r = shifted(op, w, v, k, old.cf);
-    let c = carry_after(op, w, v, k, old.cf, r);
-    if k == 1 {
-        changed(op, w, r, c, overflow_once(op, w, v, r, c), old)
-    } else {
-        changed(op, w, r, c, flags::undefined(old.of), old)
+/// A number of a size.
+#[derive(Clone, Copy)]
+struct Number {
+    size: Size,
+    value: u32,
+    ghost below: { value < modulus size },
+}
+
+impl Number {
+    /// The number of the size that has the lowest bits of v.
+    fn new(size: Size, v: u32) -> Self
+        ensures same_size { result.size ≡ size }
+        ensures lowest { result.value ≡ rest size (pos v) }
+    {
+        Number {
+            size,
+            value: size.low(u64::from(v)),
+        }
     }
+
+    /// The number, turned right by k.
+    fn rotated(self, k: u32) -> u32
+        requires { k ≤ bits self.size }
+        ensures { Is self.size (turned_right (bits self.size) k self.value) result }
+    {
+        turned_right(self.size.bits(), k, u64::from(self.value)) as u32
+    }
+
+    /// The number with CF above its top bit, as RCL and RCR turn it.
+    fn with_carry(self, c: bool) -> u64
+        ensures { Carried self.size c self.value result }
+    {
+        if c {
+            self.size.modulus() + u64::from(self.value)
+        } else {
+            u64::from(self.value)
+        }
+    }
+
+    /// CF and the number, turned right by k.
+    fn through(self, k: u32, c: bool) -> u64
+        requires { k ≤ bits self.size + 1 }
+        ensures { result ≡ turned_right (bits self.size + 1) k (with_carry self.size c self.value) }
+    {
+        turned_right(self.size.bits() + 1, k, self.with_carry(c))
+    }
+
+    /// CF and the number, as RCL turns them.
+    fn through_left(self, k: u32, c: bool) -> u64
+        ensures { result ≡ through_left self.size self.value k c }
+    {
+        self.through(self.size.bits() + 1 - of_bits_and_carry(self.size, k), c)
+    }
+
+    /// CF and the number, as RCR turns them.
+    fn through_right(self, k: u32, c: bool) -> u64
+        ensures { result ≡ through_right self.size self.value k c }
+    {
+        self.through(of_bits_and_carry(self.size, k), c)
+    }
+
+    // That k is below 32 stays a clause: the last bit out is that of a shift by k - 1, so each arm of `carry_after` would take a struct of it apart and make another.
+    /// SHL: bits that pass the top are lost.
+    fn shifted_left(self, k: u32) -> u32
+        requires { k < 32 }
+        ensures { Is self.size (rest self.size (pos (self.value * 2 ^ k))) result }
+    {
+        self.size.low(u64::from(self.value) << k)
+    }
+
+    /// SHR: zeros come in at the top.
+    fn shifted_right(self, k: u32) -> u32
+        requires { k < 32 }
+        ensures { Is self.size (self.value / 2 ^ k) result }
+    {
+        self.value >> k
+    }
+
+    /// SAR: the sign bit is copied, so of a negative number the complement is shifted.
+    fn shifted_right_signed(self, k: u32) -> u32
+        requires { k < 32 }
+        ensures { Is self.size (rest self.size (shr_z (signed self.size self.value) (2 ^ k))) result }
+    {
+        if self.size.negative(self.value) {
+            let ones = (self.size.modulus() - 1) as u32;
+            ones - ((ones - self.value) >> k)
+        } else {
+            self.value >> k
+        }
+    }
+
+    /// The number, shifted or rotated by k; c is CF.
+    fn shifted(self, op: Shift, k: u32, c: bool) -> u32
+        requires { k < 32 }
+        ensures { Is self.size (shifted op self.size self.value k c) result }
+    {
+        match op {
+            Shift::Rol => self.rotated(self.size.bits() - of_bits(self.size, k)),
+            Shift::Ror => self.rotated(of_bits(self.size, k)),
+            Shift::Rcl => self.size.low(self.through_left(k, c)),
+            Shift::Rcr => self.size.low(self.through_right(k, c)),
+            Shift::Shl => self.shifted_left(k),
+            Shift::Shr => self.shifted_right(k),
+            Shift::Sar => self.shifted_right_signed(k),
+        }
+    }
+
+    /// CF after a count that is not 0; r is the result, c CF before.
+    fn carry_after(self, op: Shift, k: u32, c: bool, r: u32) -> bool
+        requires k_nonzero { 0 < k }
+        requires k_bound { k < 32 }
+        requires r_value { r ≡ shifted op self.size self.value k c }
+        ensures { result ≡ carry_after op self.size self.value k c }
+    {
+        let w = self.size;
+        match op {
+            Shift::Rol => bit_at(0, u64::from(r)),
+            Shift::Ror => w.negative(r),
+            Shift::Rcl => bit_at(w.bits(), self.through_left(k, c)),
+            Shift::Rcr => bit_at(w.bits(), self.through_right(k, c)),
+            Shift::Shl => unless_all_out(w, k, w.negative(self.shifted_left(k - 1)), c),
+            Shift::Shr => unless_all_out(w, k, bit_at(0, u64::from(self.shifted_right(k - 1))), c),
+            Shift::Sar => bit_at(0, u64::from(self.shifted_right_signed(k - 1))),
+        }
+    }
+
+    /// OF after count 1; r is the result, c CF after.
+    fn overflow_once(self, op: Shift, r: u32, c: bool) -> bool
+        ensures { result ≡ overflow_once op self.size self.value r c }
+    {
+        let w = self.size;
+        let top = w.negative(r);
+        let second = bit_at(w.bits() - 2, u64::from(r));
+        match op {
+            Shift::Rol => top != c,
+            Shift::Ror => top != second,
+            Shift::Rcl => top != c,
+            Shift::Rcr => top != second,
+            Shift::Shl => top != c,
+            Shift::Shr => w.negative(self.value),
+            Shift::Sar => false,
+        }
+    }
+
+    /// The flags after a count of 1 to 31.
+    fn flags_after(self, op: Shift, k: u32, old: Flags) -> Flags
+        requires k_nonzero { 0 < k }
+        requires k_bound { k < 32 }
+        ensures { result ≡ flags_after op self.size self.value k old }
+    {
+        let r = self.shifted(op, k, old.cf);
+        let c = self.carry_after(op, k, old.cf, r);
+        if k == 1 {
+            changed(op, self.size, r, c, self.overflow_once(op, r, c), old)
+        } else {
+            changed(op, self.size, r, c, flags::undefined(old.of), old)
+        }
+    }
+}
+
+/// The value of a shift or rotate of v by any count; c is CF.
+pub fn shift_value(op: Shift, w: Size, v: u32, count: u32, c: bool) -> u32
+    ensures { Is w (shift_value op w v count c) result }
+{
+    Number::new(w, v).shifted(op, count % 32, c)
 }
 
 /// The flags after a shift or rotate of v by any count.
@@ -254,6 +267,6 @@ pub fn shift_flags(op: Shift, w: Size, v: u32, count: u32, old: Flags) -> Flags
     if k == 0 {
         old
     } else {
-        flags_after(op, w, w.low(u64::from(v)), k, old)
+        Number::new(w, v).flags_after(op, k, old)
     }
 }
