@@ -57,17 +57,6 @@ fn turned_right(b: u32, k: u32, x: u64) -> u64
     ((x - (high << k)) << (b - k)) + high
 }
 
-/// CF after SHL or SHR: the last bit out, undefined by the width or more.
-fn unless_all_out(w: Size, k: u32, out: bool, old: bool) -> bool
-    ensures { result ≡ unless_all_out w k out old }
-{
-    if k < w.bits() {
-        out
-    } else {
-        flags::undefined(old)
-    }
-}
-
 /// CF and OF changed, all else kept.
 #[tactic(auto, unfolding(crate::specs::Changes::rotate_flags))]
 fn rotate_flags(c: bool, o: bool, old: Flags) -> Flags
@@ -148,10 +137,8 @@ impl Operands {
     fn through_left(self, c: bool) -> u64
         ensures { result ≡ through_left self.size self.value self.count c }
     {
-        self.through(
-            self.size.bits() + 1 - of_bits_and_carry(self.size, self.count),
-            c,
-        )
+        let k = of_bits_and_carry(self.size, self.count);
+        self.through(self.size.bits() + 1 - k, c)
     }
 
     /// CF and the number, as RCR turns them.
@@ -202,6 +189,17 @@ impl Operands {
         }
     }
 
+    /// CF after SHL or SHR: the last bit out, undefined by the width or more.
+    fn unless_all_out(self, out: bool, old: bool) -> bool
+        ensures { result ≡ unless_all_out self.size self.count out old }
+    {
+        if self.count < self.size.bits() {
+            out
+        } else {
+            flags::undefined(old)
+        }
+    }
+
     // That the count is not 0 is a clause here and in `flags_after`, and no field: `shifted` takes 0 too.
     /// CF after a count that is not 0; r is the result, c CF before.
     fn carry_after(self, op: Shift, c: bool, r: u32) -> bool
@@ -220,13 +218,8 @@ impl Operands {
             Shift::Ror => w.negative(r),
             Shift::Rcl => bit_at(w.bits(), self.through_left(c)),
             Shift::Rcr => bit_at(w.bits(), self.through_right(c)),
-            Shift::Shl => unless_all_out(w, self.count, w.negative(one_less.shifted_left()), c),
-            Shift::Shr => unless_all_out(
-                w,
-                self.count,
-                bit_at(0, u64::from(one_less.shifted_right())),
-                c,
-            ),
+            Shift::Shl => self.unless_all_out(w.negative(one_less.shifted_left()), c),
+            Shift::Shr => self.unless_all_out(bit_at(0, u64::from(one_less.shifted_right())), c),
             Shift::Sar => bit_at(0, u64::from(one_less.shifted_right_signed())),
         }
     }

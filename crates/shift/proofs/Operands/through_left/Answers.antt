@@ -11,4 +11,4 @@ overflow_add-bits c =
 pub returns : goal.returns
 unfolding turned_left through_left
 returns c =
-    rw (c.through.ensures, c.of_bits_and_carry.ensures.is, c.bits.ensures)
+    rw (c.through.ensures, c.of_bits_and_carry-k.ensures.is, c.bits.ensures)
