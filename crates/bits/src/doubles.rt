@@ -47,6 +47,7 @@ impl Operands {
         }
     }
 
+    // That the count is not 0 is a clause here and in `flags_after`, and no field: `double_moved` takes 0 too.
     /// The last bit that left d.
     fn last_out(self, op: DoubleShift) -> bool
         requires { 0 < self.count }
@@ -88,13 +89,13 @@ pub fn double_value(op: DoubleShift, w: Size, d: u32, s: u32, count: u32) -> u32
     let k = count % 32;
     let own = w.low(u64::from(d));
     if k <= w.bits() {
-        Operands {
+        let operands = Operands {
             size: w,
             d: own,
             s: w.low(u64::from(s)),
             count: k,
-        }
-        .double_moved(op)
+        };
+        operands.double_moved(op)
     } else {
         own
     }
@@ -109,13 +110,13 @@ pub fn double_flags(op: DoubleShift, w: Size, d: u32, s: u32, count: u32, old: F
         return old;
     }
     if k <= w.bits() {
-        Operands {
+        let operands = Operands {
             size: w,
             d: w.low(u64::from(d)),
             s: w.low(u64::from(s)),
             count: k,
-        }
-        .flags_after(op, old)
+        };
+        operands.flags_after(op, old)
     } else {
         flags::all_undefined(old)
     }

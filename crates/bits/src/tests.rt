@@ -58,6 +58,7 @@ fn below(w: Size, v: u32) -> u64
 fn units(w: Size, n: u64) -> u64
     ensures { Units w n result }
 {
+    // A cast, since u64 has no From<usize>.
     n / u64::from(w.bits()) * w.bytes() as u64
 }
 
