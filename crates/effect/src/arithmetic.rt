@@ -1,6 +1,7 @@
 //! Operations that compute.
 ghost use Rattle.std.specs.Prelude.{◌≡◌};
 ghost use Rattle.machine.specs.Registers.{with_flags};
+ghost use Rattle.product.specs.Multiply.{product_flags};
 ghost use Rattle.effect.specs.Arithmetic as Op;
 ghost use Rattle.effect.specs.Bits as Bit;
 ghost use Rattle.effect.specs.Words as W;
@@ -16,7 +17,7 @@ use flags::Word;
 use machine::memory::{Memory, Outside};
 use machine::registers::{AH, EAX, EDX, Machine};
 use plan::{Operand, Plan};
-use product::Parts;
+use product::{Parts, Product};
 use sense::{Arithmetic, Bits};
 use shift::Shift;
 use width::Size;
@@ -208,57 +209,24 @@ fn doubled(m: &mut Machine, p: &Plan, flags: Word, low: u32, high: u32)
     m.set_part(p.size, upper(p.size), high);
 }
 
-/// 003 "MUL": the upper half and the accumulator ← accumulator times SRC.
-#[tactic(auto, unfolding(crate::specs::Arithmetic::multiplied))]
-fn multiplied(m: &mut Machine, p: &Plan, b: u32)
-    ensures { Op.multiplied m.old p.now b ≡ W.becomes m.new }
+/// 003 "MUL", "IMUL" of one operand: the upper half and the accumulator ← the product n, whose flags tell whether it spills.
+#[tactic(auto, unfolding(crate::specs::Words::onward))]
+fn multiplied(m: &mut Machine, p: &Plan, n: Product, spills: bool)
+    ensures { m.new ≡ Op.doubled (with_flags (W.onward m.old p.now) (product_flags spills m.old.flags)) p.now.size n.low n.high }
 {
-    let a = m.part(p.size, EAX);
-    let f = product::product_flags(product::mul_spills(p.size, a, b), m.flags().unpack());
-    let n = product::mul(p.size, a, b);
+    let f = product::product_flags(spills, m.flags().unpack());
     doubled(m, p, Word::pack(f), n.low, n.high);
 }
 
-/// 003 "IMUL", one operand: the same, signed.
-#[tactic(auto, unfolding(crate::specs::Arithmetic::multiplied_signed))]
-fn multiplied_signed(m: &mut Machine, p: &Plan, b: u32)
-    ensures { Op.multiplied_signed m.old p.now b ≡ W.becomes m.new }
-{
-    let a = m.part(p.size, EAX);
-    let f = product::product_flags(product::imul_spills(p.size, a, b), m.flags().unpack());
-    let n = product::imul(p.size, a, b);
-    doubled(m, p, Word::pack(f), n.low, n.high);
-}
-
-/// Quotient to the accumulator, remainder to the upper half's register; the status flags are undefined.
+/// 003 "DIV", "IDIV": quotient to the accumulator, remainder to the upper half's register; the status flags are undefined.
 #[tactic(auto, unfolding(crate::specs::Arithmetic::quotient))]
-fn quotient(m: &mut Machine, p: &Plan, d: Option<Parts>) -> Result<(), Stop>
+fn divided(m: &mut Machine, p: &Plan, d: Option<Parts>) -> Result<(), Stop>
     ensures { Comes (Op.quotient d m.old p.now) m.old result m.new }
 {
     let d = d.ok_or(Stop::Divide)?;
     let f = flags::all_undefined(m.flags().unpack());
     doubled(m, p, Word::pack(f), d.quotient, d.remainder);
     Ok(())
-}
-
-/// 003 "DIV".
-#[tactic(auto, unfolding(crate::specs::Arithmetic::divided))]
-fn divided(m: &mut Machine, p: &Plan, d: u32) -> Result<(), Stop>
-    ensures { Comes (Op.divided m.old p.now d) m.old result m.new }
-{
-    let high = m.part(p.size, upper(p.size));
-    let low = m.part(p.size, EAX);
-    quotient(m, p, product::div(p.size, high, low, d))
-}
-
-/// 003 "IDIV".
-#[tactic(auto, unfolding(crate::specs::Arithmetic::divided_signed))]
-fn divided_signed(m: &mut Machine, p: &Plan, d: u32) -> Result<(), Stop>
-    ensures { Comes (Op.divided_signed m.old p.now d) m.old result m.new }
-{
-    let high = m.part(p.size, upper(p.size));
-    let low = m.part(p.size, EAX);
-    quotient(m, p, product::idiv(p.size, high, low, d))
 }
 
 /// Where the operand in memory is: of a string of bits the unit that holds the bit.
@@ -286,8 +254,8 @@ pub fn address(m: &Machine, op: Arithmetic, p: &Plan, a: u32) -> u32
     }
 }
 
-/// What the operation does; a is that address.
-#[tactic(auto, using(crate::proofs::Reckoned::done_settled, crate::proofs::Assign::done_becomes, crate::proofs::Assign::done_faults), unfolding(crate::specs::Does::did, crate::specs::Arithmetic::arithmetic_effect))]
+/// What the operation does, where a is the address that `address` gives.
+#[tactic(auto, using(crate::proofs::Reckoned::done_settled, crate::proofs::Assign::done_becomes, crate::proofs::Assign::done_faults), unfolding(crate::specs::Does::did, crate::specs::Arithmetic::arithmetic_effect, crate::specs::Arithmetic::multiplied, crate::specs::Arithmetic::multiplied_signed, crate::specs::Arithmetic::divided, crate::specs::Arithmetic::divided_signed))]
 pub fn arithmetic(
     m: &mut Machine,
     op: Arithmetic,
@@ -308,16 +276,24 @@ pub fn arithmetic(
         Arithmetic::Single(o) => single(o, w, x, m.flags()),
         Arithmetic::Shift(o) => shift(o, w, x, value(m, p.source, r, Size::Byte), m.flags()),
         Arithmetic::Mul => {
-            multiplied(m, p, x);
+            let a = m.part(w, EAX);
+            multiplied(m, p, product::mul(w, a, x), product::mul_spills(w, a, x));
             return Ok(());
         }
         Arithmetic::Imul => {
-            multiplied_signed(m, p, x);
+            let a = m.part(w, EAX);
+            multiplied(m, p, product::imul(w, a, x), product::imul_spills(w, a, x));
             return Ok(());
         }
         Arithmetic::ImulLow => multiplied_low(w, y, value(m, p.other, r, w), m.flags()),
-        Arithmetic::Div => return divided(m, p, x),
-        Arithmetic::Idiv => return divided_signed(m, p, x),
+        Arithmetic::Div => {
+            let (high, low) = (m.part(w, upper(w)), m.part(w, EAX));
+            return divided(m, p, product::div(w, high, low, x));
+        }
+        Arithmetic::Idiv => {
+            let (high, low) = (m.part(w, upper(w)), m.part(w, EAX));
+            return divided(m, p, product::idiv(w, high, low, x));
+        }
         Arithmetic::Bits(o) => bits_computed(
             o,
             w,
