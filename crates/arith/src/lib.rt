@@ -38,6 +38,7 @@ pub enum Single {
 }
 
 /// A value, and the word of the flags that come with it.
+// A plain word, and no `flags::Word`, which is not Copy.
 #[derive(Clone, Copy, Debug, PartialEq, Eq)]
 pub struct Worked {
     pub value: u32,

@@ -68,5 +68,6 @@ pub fn unit_address(w: Size, a: u32, offset: u32) -> u32
 {
     let back = units(w, below(w, offset));
     let on = units(w, u64::from(offset));
+    // In 64 bits, since the clause is over the integers.
     Size::Dword.low(u64::from(a) + on + 0x2_0000_0000 - back)
 }

@@ -9,6 +9,7 @@ use grammar::reader::read;
 use grammar::relative::relative_of;
 
 /// The mark of an instruction's start: 2 where a displacement is left to look at.
+// Numbers, since marks are bytes that the caller lends; what is 2 here is 1 in the end.
 fn mark_of(d: Decoded) -> u8
     ensures { result ≡ mark_of (relative_of d) }
 {

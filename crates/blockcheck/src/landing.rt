@@ -14,6 +14,7 @@ fn leads_to(at: usize, size: usize, displacement: u32) -> u32
     requires { at + size < 2 ^ 63 }
     ensures { result ≡ target_of at size displacement }
 {
+    // In 64 bits, as the clause has it: the sum of all four, and then its rest.
     ((CODE as u64 + at as u64 + size as u64 + u64::from(displacement)) % 0x1_0000_0000) as u32
 }
 

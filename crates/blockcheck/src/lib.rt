@@ -59,6 +59,8 @@ impl Refusal {
     }
 }
 
+// Code and marks stay two parameters, as callers lend them.
+
 /// The answer for code and marks of one length. The marks are left as the passes need them.
 fn judge(code: &[u8], marks: &mut [u8]) -> Result<usize, Refusal>
     requires { Sized code.now × (length marks.old ≡ length code.now) }

@@ -1,4 +1,5 @@
 //! One step of a plan.
+//! Machine, plan and memory stay apart throughout: the machine is changed after the memory, and the plan never is.
 ghost use Rattle.std.specs.Prelude.{◌≡◌};
 ghost use Rattle.effect.specs.Performing.{planned};
 ghost use Rattle.machine.specs.Answers.{SameAreas};

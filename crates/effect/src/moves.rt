@@ -66,7 +66,7 @@ fn given(m: &mut Machine, p: &Plan, a: u32, v: u32, memory: &mut Memory) -> Resu
     Ok(())
 }
 
-/// CMOVcc: SRC if the condition is met, else what DEST was.
+/// CMOVcc: SRC if the condition with the number n is met, else what DEST was.
 #[inline(always)]
 #[tactic(auto, unfolding(crate::specs::Moves::chosen))]
 fn chosen(m: &Machine, n: u32, p: &Plan, r: u32) -> u32

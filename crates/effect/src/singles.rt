@@ -15,6 +15,7 @@ use scalar::Compute;
 use width::Size;
 
 /// An operand's single, where r is what was read.
+// Apart from `words`: a single is a whole register of another kind, and has no size.
 #[inline(always)]
 #[tactic(auto, unfolding(crate::specs::Singles::single_value))]
 fn value(m: &Machine, o: Operand, r: u32) -> u32

@@ -9,7 +9,7 @@ use machine::registers::Machine;
 use plan::Operand;
 use width::Size;
 
-/// What is read of an operand: 0 where it isn't in memory.
+/// What is read of an operand: 0 where it isn't in memory, at which nobody looks then, as in the rules.
 #[inline(always)]
 #[tactic(auto, unfolding(crate::specs::Does::got_of, crate::specs::Words::read_of, crate::specs::Words::read_or))]
 pub fn fetch(o: Operand, w: Size, a: u32, memory: &Memory) -> Result<u32, Outside>

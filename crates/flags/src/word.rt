@@ -39,6 +39,7 @@ impl Word {
     }
 
     /// The word of some flags.
+    // By this name and not `From`, as `flags::pack` and `unpack` are.
     #[inline(always)]
     #[tactic(auto, using(crate::proofs::RoundTrips::unpacked))]
     pub fn pack(f: Flags) -> Word

@@ -67,6 +67,7 @@ fn holder(w: Size, i: u32) -> u32
 fn replaced(w: Size, i: u32, v: u32, x: u32) -> u32
     ensures { result ≡ replaced (lowest w i) (bits w) v x }
 {
+    // By size, as the manual draws the registers: a formula over the lowest bit and the width would be no plainer.
     match w {
         Size::Byte => {
             if i / 4 % 2 == 0 {
@@ -158,6 +159,7 @@ impl Machine {
     pub fn part(&self, w: Size, i: u32) -> u32
         ensures { result ≡ part self.now w i }
     {
+        // By size, as in `replaced`.
         match w {
             Size::Byte => {
                 let v = self.register(i % 4);

@@ -20,6 +20,7 @@ pub use refusal::Refusal;
 use scalar::Xmm;
 
 /// The machine as the caller lends it, and gets it back: with the flags word.
+// Apart from `Machine`: a lent word may have bits that are no flags, for which a run is refused.
 #[derive(Clone, Copy)]
 pub struct Lent {
     pub regs: [u32; 8],
@@ -139,6 +140,7 @@ fn steps(code: &[u8], m: &mut Machine, memory: &mut Memory, budget: u64) -> (u64
     ensures constants { memory.new.constants.now ≡ memory.old.constants.now }
     ensures same_area { memory.new.area.ghost_name ≡ memory.old.area.ghost_name }
 {
+    // Fixed, since the emulator asks for no memory.
     let mut kept = [None; 64];
     for n in 0..budget {
         if let Err(stop) = kept_step(code, &mut kept, m, memory) {

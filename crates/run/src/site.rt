@@ -32,6 +32,7 @@ pub fn site_at(code: &[u8], eip: u32) -> Result<Plan, Stop>
     }
     match read(code, at) {
         Ok(decoded) => Ok(plan::plan_of(eip, decoded)),
+        // Here alone, so by hand: `From` would be no shorter.
         Err(Fault::Cut) => Err(Stop::Cut),
         Err(Fault::Unknown) => Err(Stop::Unknown),
     }

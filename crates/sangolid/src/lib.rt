@@ -10,6 +10,7 @@ use run::{Lent, Ran};
 use scalar::Xmm;
 
 /// What a state or an answer area of another length is refused with; nothing is changed.
+// A number, as C gets it: there is nothing else to say of it.
 const MISFIT: u32 = 90;
 
 /// The machine in the first eighteen words of the state.
@@ -47,6 +48,7 @@ fn state_of(ran: &Ran) -> [u32; 20]
     ensures { result ≡ state_of (told ran.now) }
 {
     let m = ran.machine;
+    // Word by word, in the order that C knows.
     [
         m.regs[0],
         m.regs[1],
@@ -90,6 +92,7 @@ pub fn sangolid_run(
 }
 
 /// Checks the block, marks its starts, and puts the count or the offset into the answer.
+// Apart from `sangolid_hex`, as C names them.
 pub fn sangolid_check(code: &[u8], marks: &mut [u8], answer: &mut [u32]) -> u32
     ensures { Checks code.now marks.old answer.old result marks.new answer.new }
 {
@@ -108,7 +111,7 @@ pub fn sangolid_check(code: &[u8], marks: &mut [u8], answer: &mut [u32]) -> u32
     }
 }
 
-/// A code's length or a line as a word; one that no word holds is FFFFFFFFh.
+/// A code's length or a line as a word; one that no word holds is FFFFFFFFh, since C gets a number.
 #[tactic(auto, unfolding(crate::specs::Interface::word_of))]
 fn word_of(n: usize) -> u32
     ensures { result ≡ word_of n }
