@@ -32,6 +32,7 @@ struct Prefixes {
     repeat: Repeat,
 }
 
+// No `Option`: the definition of a decoded instruction, `numbers` in specs/Answers.antt, has 0 for a part that is not there.
 /// An operand in numbers. A part that it does not have is 0.
 #[derive(Clone, Copy)]
 struct Operand {
