@@ -7,6 +7,5 @@ ghost use Rattle.grammar.specs.Answers.{displaced};
 pub fn extended(b: u8) -> u32
     ensures { result ≡ displaced (b ∷ []) }
 {
-    let x = u32::from(b);
-    if x < 128 { x } else { x + 0xFFFF_FF00 }
+    i32::from(b.cast_signed()).cast_unsigned()
 }

@@ -5,7 +5,6 @@ ghost use Rattle.grammar.specs.Fields.{
   Reads,
   accepted,
   byte_after,
-  prefixes,
   after_repeat_at,
   after_66_at,
   prefixes_at,
@@ -33,6 +32,7 @@ struct Prefixes {
     repeat: Repeat,
 }
 
+// No `Option`: the definition of a decoded instruction, `numbers` in specs/Answers.antt, has 0 for a part that is not there.
 /// An operand in numbers. A part that it does not have is 0.
 #[derive(Clone, Copy)]
 struct Operand {
@@ -55,12 +55,12 @@ fn accepted(p: Prefixes, opcode: usize) -> Result<Rule, Fault>
 
 impl<'a> Reader<'a> {
     /// The byte after prefixes.
-    fn byte_after(&mut self, narrow: bool, repeat: Repeat) -> Result<(Prefixes, u8), Fault>
-        ensures reads { Reads self.new result (byte_after (prefixes narrow repeat) self.old) }
+    fn byte_after(&mut self, p: Prefixes) -> Result<(Prefixes, u8), Fault>
+        ensures reads { Reads self.new result (byte_after p self.old) }
         ensures less { length self.new ≤ length self.old }
     {
         let first = self.byte()?;
-        Ok((Prefixes { narrow, repeat }, first))
+        Ok((p, first))
     }
 
     /// What follows F2 or F3: 66, or the opcode.
@@ -70,7 +70,10 @@ impl<'a> Reader<'a> {
         ensures less { length self.new ≤ length self.old }
     {
         match self.byte()? {
-            0x66 => self.byte_after(true, repeat),
+            0x66 => self.byte_after(Prefixes {
+                narrow: true,
+                repeat,
+            }),
             first => Ok((
                 Prefixes {
                     narrow: false,
@@ -88,8 +91,14 @@ impl<'a> Reader<'a> {
         ensures less { length self.new ≤ length self.old }
     {
         match self.byte()? {
-            0xF2 => self.byte_after(true, Repeat::F2),
-            0xF3 => self.byte_after(true, Repeat::F3),
+            0xF2 => self.byte_after(Prefixes {
+                narrow: true,
+                repeat: Repeat::F2,
+            }),
+            0xF3 => self.byte_after(Prefixes {
+                narrow: true,
+                repeat: Repeat::F3,
+            }),
             first => Ok((
                 Prefixes {
                     narrow: true,

@@ -39,12 +39,12 @@ pub record Completes (code : List ℕ) (count : ℕ) (before now : Buffer) (offs
 pub begins : (code : List ℕ) (count : ℕ) (b : Buffer) → Completes code count b b 0 count
 begins code count b = record { whole = λ w. w }
 
--- with a line more
-pub goes : {code : List ℕ} {count offset left less : ℕ} {before now then : Buffer} (d : Decoded) → Completes code count before now offset left
-    → left ≡ suc less → decode_of code offset ≡ Ok d → Adds now (line_of offset d.length d.opcode) then
-    → Completes code count before then (offset + d.length) less
-goes {code} {offset = offset} {less = less} d so_far more found line =
-    record { whole = λ w. so_far.whole (rw (more, one_more code less offset d found) (adds_both line w)) }
+-- with a line more, of as many bytes as the instruction has
+pub goes : {code : List ℕ} {count offset left less size : ℕ} {before now then : Buffer} (d : Decoded) → Completes code count before now offset left
+    → left ≡ suc less → decode_of code offset ≡ Ok d → size ≡ d.length → Adds now (line_of offset size d.opcode) then
+    → Completes code count before then (offset + size) less
+goes {code} {offset = offset} {less = less} d so_far more found sized line =
+    record { whole = λ w. so_far.whole (rw (more, one_more code less offset d found, ← sized) (adds_both line w)) }
 
 -- with no line left, the lines of the code are written
 pub ends : {code : List ℕ} {count offset left : ℕ} {before now : Buffer} → Completes code count before now offset left

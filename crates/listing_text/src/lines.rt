@@ -2,7 +2,7 @@
 ghost use Rattle.text.specs.Written.{Adds};
 ghost use Rattle.listing_text.specs.Listing.{opcode_text, line_of, lines_from};
 
-use grammar::reader::read;
+use grammar::reader::{own_bytes, read};
 use text::Buffer;
 
 /// Writes an opcode in capital hex: two digits, and four after 0F.
@@ -36,7 +36,8 @@ pub fn put_lines(code: &[u8], count: usize, out: &mut Buffer)
         let Ok(instruction) = read(code, offset) else {
             return;
         };
-        put_line(out, offset, instruction.length, instruction.opcode);
-        offset += instruction.length;
+        let own = own_bytes(code, offset, instruction);
+        put_line(out, offset, own.len(), instruction.opcode);
+        offset += own.len();
     }
 }

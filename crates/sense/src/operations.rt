@@ -9,11 +9,11 @@ use scalar::Compute;
 use shift::Shift;
 use width::Size;
 
-/// The word at a number; past the words stands the last.
-fn word<T: Copy>(words: &[T], number: u32, last: T) -> T
-    ensures { result ≡ slice_index_or words.now number last }
+/// The entry of a table at a number; past the table's end, the last operation, which the table leaves out.
+fn at_or<T: Copy>(table: &[T], number: u32, last: T) -> T
+    ensures { result ≡ slice_index_or table.now number last }
 {
-    words.get(number as usize).copied().unwrap_or(last)
+    table.get(number as usize).copied().unwrap_or(last)
 }
 
 /// The operations of 00 to 3F, 80, 81 and 83 but the last.
@@ -32,7 +32,7 @@ static BINARY: [Binary; 7] = [
 fn binary_at(number: u32) -> Binary
     ensures { result ≡ binary_at number }
 {
-    word(&BINARY, number, Binary::Cmp)
+    at_or(&BINARY, number, Binary::Cmp)
 }
 
 /// The operations of C0, C1 and D0 to D3 but the last; no instruction has 6.
@@ -50,7 +50,7 @@ static SHIFTS: [Shift; 6] = [
 fn shift_at(number: u32) -> Shift
     ensures { result ≡ shift_at number }
 {
-    word(&SHIFTS, number, Shift::Sar)
+    at_or(&SHIFTS, number, Shift::Sar)
 }
 
 /// The operations of F6 and F7 but the last; no instruction has 1.
@@ -69,7 +69,7 @@ static PRODUCTS: [Arithmetic; 7] = [
 fn product_at(number: u32) -> Arithmetic
     ensures { result ≡ product_at number }
 {
-    word(&PRODUCTS, number, Arithmetic::Idiv)
+    at_or(&PRODUCTS, number, Arithmetic::Idiv)
 }
 
 /// FE, by the reg field.
@@ -77,7 +77,7 @@ fn product_at(number: u32) -> Arithmetic
 fn inc_dec_at(number: u32) -> Arithmetic
     ensures { result ≡ inc_dec_at number }
 {
-    // A table of one word would be no plainer.
+    // A table of one entry would be no plainer.
     match number {
         0 => Arithmetic::Single(Single::Inc),
         _ => Arithmetic::Single(Single::Dec),
@@ -99,7 +99,7 @@ static LAST: [Operation; 6] = [
 fn last_at(number: u32) -> Operation
     ensures { result ≡ last_at number }
 {
-    word(&LAST, number, Operation::Stack(Stack::Push))
+    at_or(&LAST, number, Operation::Stack(Stack::Push))
 }
 
 /// The bit tests but the last.
@@ -110,7 +110,7 @@ static BIT_TESTS: [BitTest; 3] = [BitTest::Bt, BitTest::Bts, BitTest::Btr];
 fn bit_test_at(number: u32) -> BitTest
     ensures { result ≡ bit_test_at number }
 {
-    word(&BIT_TESTS, number, BitTest::Btc)
+    at_or(&BIT_TESTS, number, BitTest::Btc)
 }
 
 /// The operations of F3 0F 58 to F3 0F 5F but the last; no instruction has 2 or 3.
@@ -129,7 +129,7 @@ static COMPUTES: [Compute; 7] = [
 fn compute_at(number: u32) -> Compute
     ensures { result ≡ compute_at number }
 {
-    word(&COMPUTES, number, Compute::Max)
+    at_or(&COMPUTES, number, Compute::Max)
 }
 
 /// The operation of a kind, with the opcode and the ModR/M byte's reg field.

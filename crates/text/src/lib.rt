@@ -56,6 +56,7 @@ impl<'a> Buffer<'a> {
     }
 
     /// Writes a number in decimal.
+    // By recursion: division finds the last digit first, and it is written last.
     pub fn decimal(&mut self, n: u64)
         ensures { Adds self.old (decimal n) self.new }
     {
@@ -67,6 +68,7 @@ impl<'a> Buffer<'a> {
     }
 
     /// Writes the last digits of a number in base 16, so many.
+    // By recursion, as `decimal`.
     // Apart from `decimal`, which ends where the number does: one function for both would take both ends, and be no plainer.
     pub fn hex(&mut self, count: usize, n: u64)
         ensures { Adds self.old (hexadecimal count n) self.new }
