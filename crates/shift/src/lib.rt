@@ -5,7 +5,7 @@ ghost use Rattle.std.specs.Prelude.{◌≡◌, ◌+◌, ◌*◌, ◌/◌, ◌^�
 ghost use Rattle.std.specs.Int.Signed.{shr_z};
 ghost use Rattle.width.specs.Sizes.{bits, modulus};
 ghost use Rattle.width.specs.Numbers.{Is, bit_at, rest, signed};
-ghost use Rattle.shift.specs.Values.{Part, masked, turned_right, with_carry, through_left, through_right, shifted, shift_value};
+ghost use Rattle.shift.specs.Values.{Part, turned_right, with_carry, through_left, through_right, shifted, shift_value};
 ghost use Rattle.shift.specs.Changes.{
   unless_all_out,
   carry_after,
@@ -57,6 +57,17 @@ fn turned_right(b: u32, k: u32, x: u64) -> u64
     ((x - (high << k)) << (b - k)) + high
 }
 
+/// CF after SHL or SHR: the last bit out, undefined by the width or more.
+fn unless_all_out(w: Size, k: u32, out: bool, old: bool) -> bool
+    ensures { result ≡ unless_all_out w k out old }
+{
+    if k < w.bits() {
+        out
+    } else {
+        flags::undefined(old)
+    }
+}
+
 /// CF and OF changed, all else kept.
 #[tactic(auto, unfolding(crate::specs::Changes::rotate_flags))]
 fn rotate_flags(c: bool, o: bool, old: Flags) -> Flags
@@ -81,28 +92,23 @@ fn changed(op: Shift, w: Size, r: u32, c: bool, o: bool, old: Flags) -> Flags
     }
 }
 
-/// The operands of a shift or rotate: a number of the size, and a count of 0 to 31.
+/// A number of a size.
 #[derive(Clone, Copy)]
-struct Operands {
+struct Number {
     size: Size,
     value: u32,
-    count: u32,
     ghost below: { value < modulus size },
-    ghost few: { count < 32 },
 }
 
-impl Operands {
-    /// Of v, taken at the size, and any count.
-    #[tactic(auto, unfolding(crate::specs::Values::masked))]
-    fn new(size: Size, v: u32, count: u32) -> Self
+impl Number {
+    /// The number of the size that has the lowest bits of v.
+    fn new(size: Size, v: u32) -> Self
         ensures same_size { result.size ≡ size }
         ensures lowest { result.value ≡ rest size (pos v) }
-        ensures masked { result.count ≡ masked count }
     {
-        Operands {
+        Number {
             size,
             value: size.low(u64::from(v)),
-            count: count % 32,
         }
     }
 
@@ -134,93 +140,82 @@ impl Operands {
     }
 
     /// CF and the number, as RCL turns them.
-    fn through_left(self, c: bool) -> u64
-        ensures { result ≡ through_left self.size self.value self.count c }
+    fn through_left(self, k: u32, c: bool) -> u64
+        ensures { result ≡ through_left self.size self.value k c }
     {
-        let k = of_bits_and_carry(self.size, self.count);
-        self.through(self.size.bits() + 1 - k, c)
+        self.through(self.size.bits() + 1 - of_bits_and_carry(self.size, k), c)
     }
 
     /// CF and the number, as RCR turns them.
-    fn through_right(self, c: bool) -> u64
-        ensures { result ≡ through_right self.size self.value self.count c }
+    fn through_right(self, k: u32, c: bool) -> u64
+        ensures { result ≡ through_right self.size self.value k c }
     {
-        self.through(of_bits_and_carry(self.size, self.count), c)
+        self.through(of_bits_and_carry(self.size, k), c)
     }
 
+    // That k is below 32 stays a clause, in six functions: with the count in the struct a step of a shift takes 4 to 10 % more instructions.
     /// SHL: bits that pass the top are lost.
-    fn shifted_left(self) -> u32
-        ensures { Is self.size (rest self.size (pos (self.value * 2 ^ self.count))) result }
+    fn shifted_left(self, k: u32) -> u32
+        requires { k < 32 }
+        ensures { Is self.size (rest self.size (pos (self.value * 2 ^ k))) result }
     {
-        self.size.low(u64::from(self.value) << self.count)
+        self.size.low(u64::from(self.value) << k)
     }
 
     /// SHR: zeros come in at the top.
-    fn shifted_right(self) -> u32
-        ensures { Is self.size (self.value / 2 ^ self.count) result }
+    fn shifted_right(self, k: u32) -> u32
+        requires { k < 32 }
+        ensures { Is self.size (self.value / 2 ^ k) result }
     {
-        self.value >> self.count
+        self.value >> k
     }
 
     /// SAR: the sign bit is copied, so of a negative number the complement is shifted.
-    fn shifted_right_signed(self) -> u32
-        ensures { Is self.size (rest self.size (shr_z (signed self.size self.value) (2 ^ self.count))) result }
+    fn shifted_right_signed(self, k: u32) -> u32
+        requires { k < 32 }
+        ensures { Is self.size (rest self.size (shr_z (signed self.size self.value) (2 ^ k))) result }
     {
         if self.size.negative(self.value) {
             let ones = (self.size.modulus() - 1) as u32;
-            ones - ((ones - self.value) >> self.count)
+            ones - ((ones - self.value) >> k)
         } else {
-            self.value >> self.count
+            self.value >> k
         }
     }
 
-    /// The number, shifted or rotated by the count; c is CF.
-    fn shifted(self, op: Shift, c: bool) -> u32
-        ensures { Is self.size (shifted op self.size self.value self.count c) result }
+    /// The number, shifted or rotated by k; c is CF.
+    fn shifted(self, op: Shift, k: u32, c: bool) -> u32
+        requires { k < 32 }
+        ensures { Is self.size (shifted op self.size self.value k c) result }
     {
         match op {
-            Shift::Rol => self.rotated(self.size.bits() - of_bits(self.size, self.count)),
-            Shift::Ror => self.rotated(of_bits(self.size, self.count)),
-            Shift::Rcl => self.size.low(self.through_left(c)),
-            Shift::Rcr => self.size.low(self.through_right(c)),
-            Shift::Shl => self.shifted_left(),
-            Shift::Shr => self.shifted_right(),
-            Shift::Sar => self.shifted_right_signed(),
+            Shift::Rol => self.rotated(self.size.bits() - of_bits(self.size, k)),
+            Shift::Ror => self.rotated(of_bits(self.size, k)),
+            Shift::Rcl => self.size.low(self.through_left(k, c)),
+            Shift::Rcr => self.size.low(self.through_right(k, c)),
+            Shift::Shl => self.shifted_left(k),
+            Shift::Shr => self.shifted_right(k),
+            Shift::Sar => self.shifted_right_signed(k),
         }
     }
 
-    /// CF after SHL or SHR: the last bit out, undefined by the width or more.
-    fn unless_all_out(self, out: bool, old: bool) -> bool
-        ensures { result ≡ unless_all_out self.size self.count out old }
-    {
-        if self.count < self.size.bits() {
-            out
-        } else {
-            flags::undefined(old)
-        }
-    }
-
-    // That the count is not 0 is a clause here and in `flags_after`, and no field: `shifted` takes 0 too.
+    // And that it is not 0, here and in `flags_after`, since `shifted` takes 0 too.
     /// CF after a count that is not 0; r is the result, c CF before.
-    fn carry_after(self, op: Shift, c: bool, r: u32) -> bool
-        requires nonzero { 0 < self.count }
-        requires r_value { r ≡ shifted op self.size self.value self.count c }
-        ensures { result ≡ carry_after op self.size self.value self.count c }
+    fn carry_after(self, op: Shift, k: u32, c: bool, r: u32) -> bool
+        requires k_nonzero { 0 < k }
+        requires k_bound { k < 32 }
+        requires r_value { r ≡ shifted op self.size self.value k c }
+        ensures { result ≡ carry_after op self.size self.value k c }
     {
         let w = self.size;
-        let one_less = Operands {
-            size: w,
-            value: self.value,
-            count: self.count - 1,
-        };
         match op {
             Shift::Rol => bit_at(0, u64::from(r)),
             Shift::Ror => w.negative(r),
-            Shift::Rcl => bit_at(w.bits(), self.through_left(c)),
-            Shift::Rcr => bit_at(w.bits(), self.through_right(c)),
-            Shift::Shl => self.unless_all_out(w.negative(one_less.shifted_left()), c),
-            Shift::Shr => self.unless_all_out(bit_at(0, u64::from(one_less.shifted_right())), c),
-            Shift::Sar => bit_at(0, u64::from(one_less.shifted_right_signed())),
+            Shift::Rcl => bit_at(w.bits(), self.through_left(k, c)),
+            Shift::Rcr => bit_at(w.bits(), self.through_right(k, c)),
+            Shift::Shl => unless_all_out(w, k, w.negative(self.shifted_left(k - 1)), c),
+            Shift::Shr => unless_all_out(w, k, bit_at(0, u64::from(self.shifted_right(k - 1))), c),
+            Shift::Sar => bit_at(0, u64::from(self.shifted_right_signed(k - 1))),
         }
     }
 
@@ -243,13 +238,14 @@ impl Operands {
     }
 
     /// The flags after a count of 1 to 31.
-    fn flags_after(self, op: Shift, old: Flags) -> Flags
-        requires { 0 < self.count }
-        ensures { result ≡ flags_after op self.size self.value self.count old }
+    fn flags_after(self, op: Shift, k: u32, old: Flags) -> Flags
+        requires k_nonzero { 0 < k }
+        requires k_bound { k < 32 }
+        ensures { result ≡ flags_after op self.size self.value k old }
     {
-        let r = self.shifted(op, old.cf);
-        let c = self.carry_after(op, old.cf, r);
-        if self.count == 1 {
+        let r = self.shifted(op, k, old.cf);
+        let c = self.carry_after(op, k, old.cf, r);
+        if k == 1 {
             changed(op, self.size, r, c, self.overflow_once(op, r, c), old)
         } else {
             changed(op, self.size, r, c, flags::undefined(old.of), old)
@@ -261,17 +257,17 @@ impl Operands {
 pub fn shift_value(op: Shift, w: Size, v: u32, count: u32, c: bool) -> u32
     ensures { Is w (shift_value op w v count c) result }
 {
-    Operands::new(w, v, count).shifted(op, c)
+    Number::new(w, v).shifted(op, count % 32, c)
 }
 
 /// The flags after a shift or rotate of v by any count.
 pub fn shift_flags(op: Shift, w: Size, v: u32, count: u32, old: Flags) -> Flags
     ensures { result ≡ shift_flags op w v count old }
 {
-    let operands = Operands::new(w, v, count);
-    if operands.count == 0 {
+    let k = count % 32;
+    if k == 0 {
         old
     } else {
-        operands.flags_after(op, old)
+        Number::new(w, v).flags_after(op, k, old)
     }
 }

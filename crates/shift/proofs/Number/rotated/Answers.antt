@@ -1,10 +1,10 @@
--- `shift::Operands::rotated` meets its contract: a turn of the size's bits. Assumes nothing.
+-- `shift::Number::rotated` meets its contract: a turn of the size's bits. Assumes nothing.
 use native.Mathlib.Omega.{arith}
 use borrow.Author.Rules.{rules}
 use Rattle.shift.proofs.Turns.{few}
 use Rattle.width.proofs.Widths.{numbers}
 use Rattle.width.specs.Sizes.{modulus}
-use Rattle.shift.proofs.Operands.rotated.Goals as goal
+use Rattle.shift.proofs.Number.rotated.Goals as goal
 
 pub turned_right-requires : goal.turned_right-requires
 unfolding modulus

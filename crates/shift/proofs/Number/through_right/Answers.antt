@@ -1,6 +1,6 @@
--- `shift::Operands::through_right` meets its contract: the count modulo the bits and CF. Assumes nothing.
+-- `shift::Number::through_right` meets its contract: the count modulo the bits and CF. Assumes nothing.
 use Rattle.shift.specs.Values.{through_right}
-use Rattle.shift.proofs.Operands.through_right.Goals as goal
+use Rattle.shift.proofs.Number.through_right.Goals as goal
 
 pub returns : goal.returns
 unfolding through_right

@@ -1,4 +1,4 @@
--- `shift::Operands::shifted_right_signed` meets its contract: both signs, by their laws. Assumes nothing.
+-- `shift::Number::shifted_right_signed` meets its contract: both signs, by their laws. Assumes nothing.
 use mathlib.Core.Path.{sym, ◌∙◌}
 use Prim.Native.Nat.{◌-◌}
 use native.Mathlib.Omega.{arith}
@@ -6,7 +6,7 @@ use lib.Pow.{shr_le}
 use borrow.Author.Rules.{rules}
 use Rattle.shift.proofs.Signs.{clear, set}
 use Rattle.width.proofs.Widths.{numbers}
-use Rattle.shift.proofs.Operands.shifted_right_signed.Goals as goal
+use Rattle.shift.proofs.Number.shifted_right_signed.Goals as goal
 
 pub overflow_cast-ones : goal.overflow_cast-ones
 overflow_cast-ones c =
@@ -14,7 +14,7 @@ overflow_cast-ones c =
 
 pub overflow_sub-result-then-negative : goal.overflow_sub-result-then-negative
 overflow_sub-result-then-negative c =
-    let a = c.args in omega (arith, shr_le (c.modulus.result - 1 - a.self.value) a.self.count)
+    let a = c.args in omega (arith, shr_le (c.modulus.result - 1 - a.self.value) a.k)
 
 pub returns-then-negative : goal.returns-then-negative
 returns-then-negative c =

@@ -1,7 +1,7 @@
--- `shift::Operands::shifted` meets its contract: an instruction an arm. Assumes nothing.
+-- `shift::Number::shifted` meets its contract: an instruction an arm. Assumes nothing.
 use Rattle.shift.specs.Values.{turned_left, shifted}
 use Rattle.width.specs.Numbers.{residue, rest}
-use Rattle.shift.proofs.Operands.shifted.Goals as goal
+use Rattle.shift.proofs.Number.shifted.Goals as goal
 
 pub returns-in-Rol : goal.returns-in-Rol
 unfolding shifted turned_left

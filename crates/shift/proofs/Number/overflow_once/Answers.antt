@@ -1,8 +1,8 @@
--- `shift::Operands::overflow_once` meets its contract: an instruction an arm. Assumes nothing.
+-- `shift::Number::overflow_once` meets its contract: an instruction an arm. Assumes nothing.
 use native.Mathlib.Omega.{arith}
 use Rattle.shift.proofs.Turns.{few}
 use Rattle.shift.specs.Changes.{overflow_once}
-use Rattle.shift.proofs.Operands.overflow_once.Goals as goal
+use Rattle.shift.proofs.Number.overflow_once.Goals as goal
 
 pub overflow_sub-bits : goal.overflow_sub-bits
 overflow_sub-bits c =

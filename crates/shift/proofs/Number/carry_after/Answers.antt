@@ -1,9 +1,9 @@
--- `shift::Operands::carry_after` meets its contract: an instruction an arm. Assumes nothing.
+-- `shift::Number::carry_after` meets its contract: an instruction an arm. Assumes nothing.
 use native.Mathlib.Omega.{arith}
 use Rattle.shift.proofs.Turns.{few}
 use Rattle.shift.specs.Changes.{carry_after}
 use Rattle.shift.specs.Values.{shifted}
-use Rattle.shift.proofs.Operands.carry_after.Goals as goal
+use Rattle.shift.proofs.Number.carry_after.Goals as goal
 
 pub bit_at-requires-in-Rcl : goal.bit_at-requires-in-Rcl
 bit_at-requires-in-Rcl c =

@@ -1,10 +1,10 @@
--- `shift::Operands::with_carry` meets its contract: CF set or clear. Assumes nothing.
+-- `shift::Number::with_carry` meets its contract: CF set or clear. Assumes nothing.
 use native.Mathlib.Omega.{arith}
 use Rattle.shift.proofs.Turns.{doubled}
 use Rattle.shift.specs.Values.{with_carry}
 use Rattle.width.proofs.Widths.{numbers}
 use Rattle.width.specs.Numbers.{bit}
-use Rattle.shift.proofs.Operands.with_carry.Goals as goal
+use Rattle.shift.proofs.Number.with_carry.Goals as goal
 
 pub overflow_add-result : goal.overflow_add-result
 overflow_add-result c =

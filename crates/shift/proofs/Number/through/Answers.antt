@@ -1,8 +1,8 @@
--- `shift::Operands::through` meets its contract: a turn of the size's bits and CF. Assumes nothing.
+-- `shift::Number::through` meets its contract: a turn of the size's bits and CF. Assumes nothing.
 use native.Mathlib.Omega.{arith}
 use borrow.Author.Rules.{rules}
 use Rattle.shift.proofs.Turns.{few}
-use Rattle.shift.proofs.Operands.through.Goals as goal
+use Rattle.shift.proofs.Number.through.Goals as goal
 
 pub overflow_add-bits : goal.overflow_add-bits
 overflow_add-bits c =
