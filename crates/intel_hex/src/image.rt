@@ -33,14 +33,13 @@ impl Image {
         Ok(())
     }
 
-    /// Copies so many bytes into the code area.
-    pub fn copy_to(&self, code: &mut [u8], size: usize)
-        requires within_image { size ≤ 65536 }
-        requires within_code { size ≤ length code.old }
-        ensures { Copied self.now.cells code.old size code.new }
+    /// Copies the first bytes into an area of the code, as many as that has.
+    pub fn copy_to(&self, code: &mut [u8])
+        requires { length code.old ≤ 65536 }
+        ensures { Copied self.now.cells code.old (length code.old) code.new }
     {
         // By place, for nothing is known of what a zip of iter_mut writes.
-        for i in 0..size {
+        for i in 0..code.len() {
             code[i] = self.cells[i].unwrap_or(GAP);
         }
     }

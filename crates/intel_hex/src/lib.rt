@@ -49,7 +49,7 @@ fn conclude(file: File, image: &Image, code: &mut [u8]) -> Result<usize, Refused
             line: 0,
         });
     }
-    image.copy_to(code, file.top);
+    image.copy_to(&mut code[..file.top]);
     Ok(file.top)
 }
 
