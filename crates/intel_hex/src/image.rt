@@ -6,13 +6,16 @@ ghost use Rattle.intel_hex.specs.Reading.{bytes_at, Shows, Lays, Copied};
 use crate::fault::Fault;
 use crate::line::Line;
 
+/// The most bytes of code: one for each address from 00010000h to 0001FFFFh.
+pub const MOST: usize = 65536;
+
 /// What fills the code where no byte is given.
 const GAP: u8 = 0x90;
 
 /// The byte given for each address from 00010000h to 0001FFFFh, if one was.
 #[derive(Drop)]
 pub struct Image {
-    pub cells: [Option<u8>; 65536],
+    pub cells: [Option<u8>; MOST],
 }
 
 impl Image {

@@ -3,14 +3,11 @@ ghost use Rattle.std.specs.Prelude.{◌≡◌, false};
 ghost use Rattle.intel_hex.specs.Reading.{byte_at, Summed, IsRecord, ending, rising, reaching, end_judged, upper_judged, JudgesFrom};
 
 use crate::fault::Fault;
-use crate::image::Image;
+use crate::image::{Image, MOST};
 use crate::line::Line;
 
 /// Code offset 0.
 const CODE: usize = 0x0001_0000;
-
-/// The most bytes of code.
-const MOST: usize = 65536;
 
 /// What is known after some lines: whether an end record was among them, the upper half, the code's length so far.
 // `ended` is a state of its own: no other field hangs on it.
