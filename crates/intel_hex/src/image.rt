@@ -1,5 +1,5 @@
 //! The image of the code while a file is read.
-ghost use Rattle.std.specs.Prelude.{◌≡◌, List, ℕ, ◌+◌, ◌≤◌, length};
+ghost use Rattle.std.specs.Prelude.{◌≡◌, List, ℕ, ◌+◌, ◌≤◌, length, replicate, None};
 ghost use Rattle.intel_hex.specs.Files.{given_from, code_base};
 ghost use Rattle.intel_hex.specs.Reading.{bytes_at, Shows, Lays, Copied};
 
@@ -15,10 +15,19 @@ const GAP: u8 = 0x90;
 /// The byte given for each address from 00010000h to 0001FFFFh, if one was.
 #[derive(Drop)]
 pub struct Image {
-    pub cells: [Option<u8>; MOST],
+    cells: [Option<u8>; MOST],
 }
 
 impl Image {
+    /// With no byte given.
+    pub fn blank() -> Self
+        ensures { result.cells ≡ replicate 65536 None }
+    {
+        Image {
+            cells: [None; MOST],
+        }
+    }
+
     /// Lays the data bytes of a record from an offset on. Refused where one of their addresses was given before.
     pub fn lay(&mut self, line: &Line, from: usize) -> Result<(), Fault>
         requires { from + line.now.count ≤ 65536 }

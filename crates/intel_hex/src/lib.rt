@@ -12,7 +12,7 @@ ghost use Rattle.intel_hex.specs.Files.{Outcome, number_of, value_of};
 ghost use Rattle.intel_hex.specs.Reading.{Found, Concluded};
 
 pub use crate::fault::{Fault, Refused};
-use crate::image::{Image, MOST};
+use crate::image::Image;
 use crate::judging::{File, judge_line};
 
 /// Judges the lines of a text one after another, on a blank image.
@@ -57,9 +57,7 @@ fn conclude(file: File, image: &Image, code: &mut [u8]) -> Result<usize, Refused
 pub fn read(text: &[u8], code: &mut [u8]) -> Result<usize, Refused>
     ensures { Outcome text.now code.old (number_of result) (value_of result) code.new }
 {
-    let mut image = Image {
-        cells: [None; MOST],
-    };
+    let mut image = Image::blank();
     let file = judge(text, code.len(), &mut image)?;
     conclude(file, &image, code)
 }
