@@ -65,10 +65,7 @@ fn judge_data(line: &Line, file: File, size: usize, image: &mut Image) -> Result
     }
     let from = start - CODE;
     let end = from + line.count;
-    if end > MOST {
-        return Err(Fault::Outside);
-    }
-    if end > size {
+    if end > MOST || end > size {
         return Err(Fault::Outside);
     }
     image.lay(line, from)?;
