@@ -13,6 +13,7 @@ pub const MOST: usize = 65536;
 const GAP: u8 = 0x90;
 
 /// The byte given for each address from 00010000h to 0001FFFFh, if one was.
+// A fixed array: `read` cannot fail for want of memory, and asks for none.
 #[derive(Drop)]
 pub struct Image {
     cells: [Option<u8>; MOST],

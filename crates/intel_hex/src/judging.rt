@@ -103,6 +103,7 @@ fn judge_record(line: &Line, file: File, size: usize, image: &mut Image) -> Resu
     if line.sum() != 0 {
         return Err(Fault::WrongSum);
     }
+    // The types are the format's own numbers: an enum of them would be made and taken apart at this one place.
     match line.kind() {
         0 => judge_data(line, file, size, image),
         1 => judge_end(line, file),

@@ -149,7 +149,7 @@ fn halves(w: Size, n: u64) -> Product
     }
 }
 
-// MUL and IMUL, DIV and IDIV stay apart: unsigned and signed numbers share no step but `halves` and `taken`.
+// MUL and IMUL, DIV and IDIV stay apart: unsigned and signed numbers share no step but `halves`, `taken` and `joined`.
 /// MUL: the unsigned product's two halves.
 pub fn mul(w: Size, a: u32, b: u32) -> Product
     ensures { Halves w (unsigned_product w a b) result }
