@@ -56,16 +56,13 @@ fn first_nan(a: u32, b: u32) -> u32
 }
 
 /// What an operation gives where an operand is a NaN.
+#[tactic(auto, using(crate::proofs::Numbers::rounded_nan, crate::proofs::Numbers::chosen_nan), unfolding(crate::specs::Singles::computed))]
 fn of_nan(op: Compute, a: u32, b: u32) -> u32
     ensures { (is_single_nan a || is_single_nan b) ≡ true → result ≡ computed op a b }
 {
     match op {
-        Compute::Add => first_nan(a, b),
-        Compute::Mul => first_nan(a, b),
-        Compute::Sub => first_nan(a, b),
-        Compute::Min => b,
-        Compute::Div => first_nan(a, b),
-        Compute::Max => b,
+        Compute::Add | Compute::Mul | Compute::Sub | Compute::Div => first_nan(a, b),
+        Compute::Min | Compute::Max => b,
     }
 }
 
