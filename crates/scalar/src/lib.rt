@@ -87,10 +87,7 @@ fn of_numbers(op: Compute, a: u32, b: u32) -> u32
 pub fn computed(op: Compute, a: u32, b: u32) -> u32
     ensures { result ≡ computed op a b }
 {
-    if is_nan(a) {
-        return of_nan(op, a, b);
-    }
-    if is_nan(b) {
+    if is_nan(a) || is_nan(b) {
         return of_nan(op, a, b);
     }
     of_numbers(op, a, b)
@@ -128,13 +125,11 @@ fn order(a: u32, b: u32, word: u32) -> u32
 }
 
 /// The word of the flags after COMISS.
+#[tactic(auto, using(crate::proofs::Numbers::compared_nan))]
 pub fn compared(a: u32, b: u32, word: u32) -> u32
     ensures { flags_of result ≡ compared a b (flags_of word) }
 {
-    if is_nan(a) {
-        return answer(true, true, true, word);
-    }
-    if is_nan(b) {
+    if is_nan(a) || is_nan(b) {
         return answer(true, true, true, word);
     }
     order(a, b, word)
