@@ -219,10 +219,7 @@ fn dividend(w: Size, high: u32, low: u32) -> Signed
 fn divided_unsigned(w: Size, n: u64, d: u64) -> Option<Parts>
     ensures { Divides w (divided_unsigned w n d) result }
 {
-    if d == 0 {
-        return None;
-    }
-    if w.modulus() <= n / d {
+    if d == 0 || w.modulus() <= n / d {
         return None;
     }
     Some(Parts {
