@@ -2,10 +2,12 @@
 use mathlib.Core.Path.{◌≡◌, refl, ap, ◌∙◌}
 use mathlib.Core.Bool.{true, false}
 use mathlib.Core.Logic.{◌⊎◌, inl, inr}
-use mathlib.Core.List.{List, [], ◌∷◌, Memᴰ}
-use Prim.Native.Nat.{ℕ, suc, ◌+◌, ◌-◌, ◌<◌}
+use mathlib.Core.List.{List, [], ◌∷◌, ◌++◌, Memᴰ}
+use Prim.Native.Nat.{ℕ, suc, ◌+◌, ◌-◌, ◌<◌, ◌≤◌}
 use native.Mathlib.Omega.{arith}
-use lib.ListN.{length, get_or}
+use lib.ListN.{length, get_or, take, drop, length-append, length-drop, get_or-append}
+use lib.Seq.{get_or-drop, get_or-append-add}
+use Rattle.std.proofs.lemmas.List.{length-take-le}
 use Rattle.intel_hex.specs.Records.{Record}
 use Rattle.intel_hex.specs.Files.{given, code_base, Holds, Outcome, refused, no_end, no_data, read, number_of, value_of, refusal_number, Fault, malformed, wrong_sum, other_type, outside, given_before, after_end, fault_number}
 use Rattle.intel_hex.specs.Reading.{Known, Copied, filled, Concluded, Found, whole, at_line, refusal_of}
@@ -38,6 +40,21 @@ known_holds {size} {records} {file} {image} {area} {after} known some copied =
 
     gap : (i : ℕ) → i < file.top → ((b : ℕ) → Memᴰ (code_base + i, b) (given records) → ⊥) → get_or after i 0 ≡ 0x90
     gap i h none = copied.below i h ∙ ap filled (known.shows.blank i none)
+
+-- what is copied into an area's beginning is copied into the area
+pub copied_into : {image : List (Option ℕ)} {area after : List ℕ} (size : ℕ) → size ≤ length area → Copied image (take size area) (length (take size area)) after
+    → Copied image area size (after ++ drop size area)
+copied_into {image} {area} {after} size fits copied =
+    let taken : length (take size area) ≡ size = length-take-le size area fits in
+    let long : length after ≡ size = copied.long ∙ taken in
+    record {
+      long = rw (length-append after (drop size area), long, length-drop size area) (omega (arith, fits));
+      below = λ i h. get_or-append after (drop size area) 0 i (omega (arith, long, h)) ∙ copied.below i (omega (arith, taken, h));
+      beyond = λ i h.
+          let there : length after + (i - length after) ≡ i = omega (arith, long, h) in
+          let same : size + (i - length after) ≡ i = omega (arith, long, h) in
+          rw (there, same) at (get_or-append-add after (drop size area) (i - length after) 0 ∙ get_or-drop size area (i - length after) 0);
+    }
 
 module _ (file : File) (image : List (Option ℕ)) (area : List ℕ) where
   -- no end record

@@ -2,6 +2,7 @@
 ghost use Rattle.std.specs.Prelude.{◌≡◌, suc, ◌<◌, length};
 ghost use Rattle.intel_hex.specs.Reading.{digit_of, worth, byte_at};
 
+// Not the `digit` of `vector_text`, where capital digits alone are digits.
 /// What a hex digit stands for.
 #[tactic(auto, unfolding(crate::specs::Reading::digit_of))]
 pub fn digit(byte: u8) -> Option<u8>

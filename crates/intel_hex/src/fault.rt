@@ -68,5 +68,6 @@ impl Error for Fault {}
 #[derive(Clone, Copy, Debug, PartialEq, Eq, Hash)]
 pub struct Refused {
     pub fault: Fault,
+    // No Option: callers are given this very number, 0 included.
     pub line: usize,
 }

@@ -1,21 +1,34 @@
 //! The image of the code while a file is read.
-ghost use Rattle.std.specs.Prelude.{◌≡◌, List, ℕ, ◌+◌, ◌≤◌, length};
+ghost use Rattle.std.specs.Prelude.{◌≡◌, List, ℕ, ◌+◌, ◌≤◌, length, replicate, None};
 ghost use Rattle.intel_hex.specs.Files.{given_from, code_base};
 ghost use Rattle.intel_hex.specs.Reading.{bytes_at, Shows, Lays, Copied};
 
 use crate::fault::Fault;
 use crate::line::Line;
 
+/// The most bytes of code: one for each address from 00010000h to 0001FFFFh.
+pub const MOST: usize = 65536;
+
 /// What fills the code where no byte is given.
 const GAP: u8 = 0x90;
 
 /// The byte given for each address from 00010000h to 0001FFFFh, if one was.
+// A fixed array: `read` cannot fail for want of memory, and asks for none.
 #[derive(Drop)]
 pub struct Image {
-    pub cells: [Option<u8>; 65536],
+    cells: [Option<u8>; MOST],
 }
 
 impl Image {
+    /// With no byte given.
+    pub fn blank() -> Self
+        ensures { result.cells ≡ replicate 65536 None }
+    {
+        Image {
+            cells: [None; MOST],
+        }
+    }
+
     /// Lays the data bytes of a record from an offset on. Refused where one of their addresses was given before.
     pub fn lay(&mut self, line: &Line, from: usize) -> Result<(), Fault>
         requires { from + line.now.count ≤ 65536 }
@@ -33,14 +46,13 @@ impl Image {
         Ok(())
     }
 
-    /// Copies so many bytes into the code area.
-    pub fn copy_to(&self, code: &mut [u8], size: usize)
-        requires within_image { size ≤ 65536 }
-        requires within_code { size ≤ length code.old }
-        ensures { Copied self.now.cells code.old size code.new }
+    /// Copies the first bytes into an area of the code, as many as that has.
+    pub fn copy_to(&self, code: &mut [u8])
+        requires { length code.old ≤ 65536 }
+        ensures { Copied self.now.cells code.old (length code.old) code.new }
     {
         // By place, for nothing is known of what a zip of iter_mut writes.
-        for i in 0..size {
+        for i in 0..code.len() {
             code[i] = self.cells[i].unwrap_or(GAP);
         }
     }

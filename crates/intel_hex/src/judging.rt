@@ -3,14 +3,11 @@ ghost use Rattle.std.specs.Prelude.{◌≡◌, false};
 ghost use Rattle.intel_hex.specs.Reading.{byte_at, Summed, IsRecord, ending, rising, reaching, end_judged, upper_judged, JudgesFrom};
 
 use crate::fault::Fault;
-use crate::image::Image;
+use crate::image::{Image, MOST};
 use crate::line::Line;
 
 /// Code offset 0.
 const CODE: usize = 0x0001_0000;
-
-/// The most bytes of code.
-const MOST: usize = 65536;
 
 /// What is known after some lines: whether an end record was among them, the upper half, the code's length so far.
 // `ended` is a state of its own: no other field hangs on it.
@@ -68,10 +65,7 @@ fn judge_data(line: &Line, file: File, size: usize, image: &mut Image) -> Result
     }
     let from = start - CODE;
     let end = from + line.count;
-    if end > MOST {
-        return Err(Fault::Outside);
-    }
-    if end > size {
+    if end > MOST || end > size {
         return Err(Fault::Outside);
     }
     image.lay(line, from)?;
@@ -109,6 +103,7 @@ fn judge_record(line: &Line, file: File, size: usize, image: &mut Image) -> Resu
     if line.sum() != 0 {
         return Err(Fault::WrongSum);
     }
+    // The types are the format's own numbers: an enum of them would be made and taken apart at this one place.
     match line.kind() {
         0 => judge_data(line, file, size, image),
         1 => judge_end(line, file),

@@ -49,7 +49,7 @@ fn conclude(file: File, image: &Image, code: &mut [u8]) -> Result<usize, Refused
             line: 0,
         });
     }
-    image.copy_to(code, file.top);
+    image.copy_to(&mut code[..file.top]);
     Ok(file.top)
 }
 
@@ -57,9 +57,7 @@ fn conclude(file: File, image: &Image, code: &mut [u8]) -> Result<usize, Refused
 pub fn read(text: &[u8], code: &mut [u8]) -> Result<usize, Refused>
     ensures { Outcome text.now code.old (number_of result) (value_of result) code.new }
 {
-    let mut image = Image {
-        cells: [None; 65536],
-    };
+    let mut image = Image::blank();
     let file = judge(text, code.len(), &mut image)?;
     conclude(file, &image, code)
 }

@@ -78,7 +78,7 @@ impl<'a> Line<'a> {
         requires { i + 1 < self.now.count + 5 }
         ensures { result ≡ 256 * byte_at self.now.bytes.now (1 + 2 * i) + byte_at self.now.bytes.now (3 + 2 * i) }
     {
-        256 * u16::from(self.byte(i)) + u16::from(self.byte(i + 1))
+        u16::from_be_bytes([self.byte(i), self.byte(i + 1)])
     }
 
     /// The offset.

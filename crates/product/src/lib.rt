@@ -149,7 +149,7 @@ fn halves(w: Size, n: u64) -> Product
     }
 }
 
-// MUL and IMUL, DIV and IDIV stay apart: unsigned and signed numbers share no step but `halves` and `taken`.
+// MUL and IMUL, DIV and IDIV stay apart: unsigned and signed numbers share no step but `halves`, `taken` and `joined`.
 /// MUL: the unsigned product's two halves.
 pub fn mul(w: Size, a: u32, b: u32) -> Product
     ensures { Halves w (unsigned_product w a b) result }
@@ -219,10 +219,7 @@ fn dividend(w: Size, high: u32, low: u32) -> Signed
 fn divided_unsigned(w: Size, n: u64, d: u64) -> Option<Parts>
     ensures { Divides w (divided_unsigned w n d) result }
 {
-    if d == 0 {
-        return None;
-    }
-    if w.modulus() <= n / d {
+    if d == 0 || w.modulus() <= n / d {
         return None;
     }
     Some(Parts {

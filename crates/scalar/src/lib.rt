@@ -56,16 +56,13 @@ fn first_nan(a: u32, b: u32) -> u32
 }
 
 /// What an operation gives where an operand is a NaN.
+#[tactic(auto, using(crate::proofs::Numbers::rounded_nan, crate::proofs::Numbers::chosen_nan), unfolding(crate::specs::Singles::computed))]
 fn of_nan(op: Compute, a: u32, b: u32) -> u32
     ensures { (is_single_nan a || is_single_nan b) ≡ true → result ≡ computed op a b }
 {
     match op {
-        Compute::Add => first_nan(a, b),
-        Compute::Mul => first_nan(a, b),
-        Compute::Sub => first_nan(a, b),
-        Compute::Min => b,
-        Compute::Div => first_nan(a, b),
-        Compute::Max => b,
+        Compute::Add | Compute::Mul | Compute::Sub | Compute::Div => first_nan(a, b),
+        Compute::Min | Compute::Max => b,
     }
 }
 
@@ -90,10 +87,7 @@ fn of_numbers(op: Compute, a: u32, b: u32) -> u32
 pub fn computed(op: Compute, a: u32, b: u32) -> u32
     ensures { result ≡ computed op a b }
 {
-    if is_nan(a) {
-        return of_nan(op, a, b);
-    }
-    if is_nan(b) {
+    if is_nan(a) || is_nan(b) {
         return of_nan(op, a, b);
     }
     of_numbers(op, a, b)
@@ -131,13 +125,11 @@ fn order(a: u32, b: u32, word: u32) -> u32
 }
 
 /// The word of the flags after COMISS.
+#[tactic(auto, using(crate::proofs::Numbers::compared_nan))]
 pub fn compared(a: u32, b: u32, word: u32) -> u32
     ensures { flags_of result ≡ compared a b (flags_of word) }
 {
-    if is_nan(a) {
-        return answer(true, true, true, word);
-    }
-    if is_nan(b) {
+    if is_nan(a) || is_nan(b) {
         return answer(true, true, true, word);
     }
     order(a, b, word)

@@ -3,6 +3,7 @@
 ghost use Rattle.std.specs.Prelude.{◌≡◌, ◌<◌, ◌%◌, ◌^◌, is_some, unwrap_or, slice_index};
 ghost use Rattle.vector_text.specs.Hex.{is_digit, digit_of, are_digits, value_of, bytes_of};
 
+// Not the `digit` of `intel_hex`, where small letters are digits too.
 /// The value of a hex digit; `None` for any other byte.
 fn digit(byte: u8) -> Option<u8>
     ensures is { is_some result ≡ is_digit byte }

@@ -19,12 +19,7 @@ returns-then-start-lt-CODE c =
 pub returns-then-end-gt-MOST : goal.returns-then-end-gt-MOST
 returns-then-end-gt-MOST c =
     judged_outside c.args.size c.args.file c.args.image.now.cells c.args.line.now.bytes.now c.requires.not_ended c.args.line.now.count c.requires.summed.0 c.requires.summed.1 (c.args.line.now.count - 1) (omega (arith, pos_of_ne-zero c.if-line-eq0.false))
-    (λ w. omega (arith, w.below, c.if-end-gt-MOST.true, c.if-start-lt-CODE.false, c.offset.ensures, pos_of_ne-zero c.if-line-eq0.false))
-
-pub returns-then-end-size : goal.returns-then-end-size
-returns-then-end-size c =
-    judged_outside c.args.size c.args.file c.args.image.now.cells c.args.line.now.bytes.now c.requires.not_ended c.args.line.now.count c.requires.summed.0 c.requires.summed.1 (c.args.line.now.count - 1) (omega (arith, pos_of_ne-zero c.if-line-eq0.false))
-    (λ w. omega (arith, w.inside, c.if-end-size.true, c.if-start-lt-CODE.false, c.offset.ensures, pos_of_ne-zero c.if-line-eq0.false))
+    (λ w. omega (arith, w.below, w.inside, c.then-end-gt-MOST.either, c.if-start-lt-CODE.false, c.offset.ensures, pos_of_ne-zero c.if-line-eq0.false))
 
 pub returns-in_err-lay : goal.returns-in_err-lay
 returns-in_err-lay c =
