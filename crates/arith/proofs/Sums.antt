@@ -1,15 +1,15 @@
 -- Sums and differences over the integers as one difference of naturals, unsigned and signed. Assumes nothing.
 use mathlib.Core.Path.{◌≡◌, ap, ap₂, ◌∙◌}
 use mathlib.Core.Bool.{Bool}
-use Prim.Native.Nat.{ℕ, ◌+◌, ◌-◌, ◌%◌, ◌^◌, ◌≤◌}
+use Prim.Native.Nat.{ℕ, ◌+◌}
 use native.Mathlib.Omega.{arith}
 use lib.IntN.{pos, sub_ℕ, ◌-ℤ◌}
 use Rattle.width.specs.declared.Size.{Size}
 use Rattle.width.specs.Sizes.{modulus, half}
-use Rattle.width.specs.Numbers.{bit, rest, beyond, signed, Ranked}
+use Rattle.width.specs.Numbers.{bit, beyond, signed, Ranked}
 use Rattle.width.proofs.Differences.{natural, added, subtracted, same}
-use Rattle.width.proofs.Widths.{numbers, lifted}
-use Rattle.arith.specs.Sums.{sum, difference, carries, adjusts}
+use Rattle.width.proofs.Widths.{numbers}
+use Rattle.arith.specs.Sums.{sum, difference, carries}
 
 -- an unsigned sum
 pub sum_natural : (c : Bool) (a b : ℕ) → sum c (pos a) (pos b) ≡ sub_ℕ (a + b + bit c) 0
@@ -35,24 +35,7 @@ difference_ranked c w a b r s h k =
     rw (h.meant, k.meant, natural (bit c), added s (half w) (bit c) 0, subtracted r (half w) (s + bit c) (half w + 0))
     (same (r + (half w + 0)) (half w + (s + bit c)) r (s + bit c) (omega arith))
 
--- a difference at the size, from naturals alone
-pub difference_lifted : (c : Bool) (w : Size) (a b : ℕ) → b + bit c ≤ a + 2 ^ 33 → rest w (pos (a + 2 ^ 33 - (b + bit c))) ≡ rest w (difference c (pos a) (pos b))
-difference_lifted c w a b h = rw (difference_natural c a b) (lifted w a (b + bit c) h)
-
--- CF and AF after a sum
-pub sum_carries : (c : Bool) (w : Size) (a b : ℕ) → carries (sum c) w a b ≡ beyond (modulus w) (sub_ℕ (a + b + bit c) 0)
-unfolding carries
-sum_carries c w a b = ap (beyond (modulus w)) (sum_natural c a b)
-
-pub sum_adjusts : (c : Bool) (a b : ℕ) → adjusts (sum c) a b ≡ beyond 16 (sub_ℕ (a % 16 + b % 16 + bit c) 0)
-unfolding adjusts
-sum_adjusts c a b = ap (beyond 16) (sum_natural c (a % 16) (b % 16))
-
--- CF and AF after a difference
+-- CF after a difference
 pub difference_carries : (c : Bool) (w : Size) (a b : ℕ) → carries (difference c) w a b ≡ beyond (modulus w) (sub_ℕ a (b + bit c))
 unfolding carries
 difference_carries c w a b = ap (beyond (modulus w)) (difference_natural c a b)
-
-pub difference_adjusts : (c : Bool) (a b : ℕ) → adjusts (difference c) a b ≡ beyond 16 (sub_ℕ (a % 16) (b % 16 + bit c))
-unfolding adjusts
-difference_adjusts c a b = ap (beyond 16) (difference_natural c (a % 16) (b % 16))

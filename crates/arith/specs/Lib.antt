@@ -1,5 +1,6 @@
 -- The definitions of `arith`. Assumes nothing.
 pub mod Sums
+pub mod Integers
 pub mod Binary
 pub mod Single
 pub mod Undefined

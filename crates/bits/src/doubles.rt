@@ -1,4 +1,4 @@
-// Double shifts at a size, by any count: the value, and the flags.
+//! Double shifts at a size, by any count: the value, and the flags.
 ghost use Rattle.std.specs.Prelude.{◌≡◌, ◌+◌, ◌*◌, ◌<◌, ◌≤◌};
 ghost use Rattle.width.specs.Sizes.{bits, modulus};
 ghost use Rattle.width.specs.Numbers.{Is};
@@ -11,82 +11,97 @@ ghost use Rattle.bits.specs.Doubles.{
   double_flags,
 };
 
-use crate::{DoubleShift, bit_at};
+use crate::DoubleShift;
 use flags::Flags;
-use width::Size;
+use width::{Size, bit_at};
 
-// Two numbers of the size as one double number.
+/// Two numbers of the size as one double number.
 fn double(w: Size, high: u32, low: u32) -> u64
     requires { low < modulus w }
     ensures { result ≡ high * modulus w + low }
 {
-    ((high as u64) << width::bits(w)) + low as u64
+    (u64::from(high) << w.bits()) + u64::from(low)
 }
 
-// d and s as one double number, moved by k: to the left by k is to the right by the rest of the width.
-fn double_moved(op: DoubleShift, w: Size, d: u32, s: u32, k: u32) -> u32
-    requires d_bound { d < modulus w }
-    requires s_bound { s < modulus w }
-    requires k_bound { k ≤ bits w }
-    ensures { Is w (double_moved op w d s k) result }
-{
-    match op {
-        DoubleShift::Shld => width::low(w, double(w, d, s) >> (width::bits(w) - k)),
-        DoubleShift::Shrd => width::low(w, double(w, s, d) >> k),
+/// The operands of a double shift: d and s, both of the size, and a count of 0 to the width.
+#[derive(Clone, Copy)]
+struct Operands {
+    size: Size,
+    d: u32,
+    s: u32,
+    count: u32,
+    ghost d_below: { d < modulus size },
+    ghost s_below: { s < modulus size },
+    ghost within: { count ≤ bits size },
+}
+
+impl Operands {
+    /// d and s as one double number, moved by the count: to the left by it is to the right by the rest of the width.
+    fn double_moved(self, op: DoubleShift) -> u32
+        ensures { Is self.size (double_moved op self.size self.d self.s self.count) result }
+    {
+        let w = self.size;
+        match op {
+            DoubleShift::Shld => w.low(double(w, self.d, self.s) >> (w.bits() - self.count)),
+            DoubleShift::Shrd => w.low(double(w, self.s, self.d) >> self.count),
+        }
+    }
+
+    // That the count is not 0 is a clause here and in `flags_after`, and no field: `double_moved` takes 0 too.
+    /// The last bit that left d.
+    fn last_out(self, op: DoubleShift) -> bool
+        requires { 0 < self.count }
+        ensures { result ≡ last_out op self.size self.d self.count }
+    {
+        match op {
+            DoubleShift::Shld => bit_at(self.size.bits() - self.count, u64::from(self.d)),
+            DoubleShift::Shrd => bit_at(self.count - 1, u64::from(self.d)),
+        }
+    }
+
+    /// OF afterwards; r is the result.
+    fn overflow_after(self, r: u32, old: bool) -> bool
+        ensures { result ≡ overflow_after self.size self.d r self.count old }
+    {
+        if self.count == 1 {
+            self.size.negative(self.d) != self.size.negative(r)
+        } else {
+            flags::undefined(old)
+        }
+    }
+
+    /// The flags after a count that is not 0.
+    fn flags_after(self, op: DoubleShift, old: Flags) -> Flags
+        requires { 0 < self.count }
+        ensures { result ≡ flags_after op self.size self.d self.s self.count old }
+    {
+        let r = self.double_moved(op);
+        let c = self.last_out(op);
+        let a = flags::undefined(old.af);
+        flags::resulting(self.size, r, c, a, self.overflow_after(r, old.of), old)
     }
 }
 
-// The last bit that left d.
-fn last_out(op: DoubleShift, w: Size, d: u32, k: u32) -> bool
-    requires k_nonzero { 0 < k }
-    requires k_bound { k ≤ bits w }
-    ensures { result ≡ last_out op w d k }
-{
-    match op {
-        DoubleShift::Shld => bit_at(width::bits(w) - k, d),
-        DoubleShift::Shrd => bit_at(k - 1, d),
-    }
-}
-
-// OF after a count k: d is the operand, r the result.
-fn overflow_after(w: Size, d: u32, r: u32, k: u32, old: bool) -> bool
-    ensures { result ≡ overflow_after w d r k old }
-{
-    if k == 1 {
-        width::negative(w, d) != width::negative(w, r)
-    } else {
-        flags::undefined(old)
-    }
-}
-
-// The flags after a count of 1 to the width.
-fn flags_after(op: DoubleShift, w: Size, d: u32, s: u32, k: u32, old: Flags) -> Flags
-    requires d_bound { d < modulus w }
-    requires s_bound { s < modulus w }
-    requires k_nonzero { 0 < k }
-    requires k_bound { k ≤ bits w }
-    ensures { result ≡ flags_after op w d s k old }
-{
-    let r = double_moved(op, w, d, s, k);
-    let c = last_out(op, w, d, k);
-    let a = flags::undefined(old.af);
-    flags::resulting(w, r, c, a, overflow_after(w, d, r, k, old.of), old)
-}
-
-// The value of d shifted with s behind it, by any count.
+/// The value of d shifted with s behind it, by any count.
 pub fn double_value(op: DoubleShift, w: Size, d: u32, s: u32, count: u32) -> u32
     ensures { Is w (double_value op w d s count) result }
 {
     let k = count % 32;
-    let own = width::low(w, d as u64);
-    if k <= width::bits(w) {
-        double_moved(op, w, own, width::low(w, s as u64), k)
+    let own = w.low(u64::from(d));
+    if k <= w.bits() {
+        let operands = Operands {
+            size: w,
+            d: own,
+            s: w.low(u64::from(s)),
+            count: k,
+        };
+        operands.double_moved(op)
     } else {
         own
     }
 }
 
-// The flags after d was shifted with s behind it, by any count.
+/// The flags after d was shifted with s behind it, by any count.
 pub fn double_flags(op: DoubleShift, w: Size, d: u32, s: u32, count: u32, old: Flags) -> Flags
     ensures { result ≡ double_flags op w d s count old }
 {
@@ -94,15 +109,14 @@ pub fn double_flags(op: DoubleShift, w: Size, d: u32, s: u32, count: u32, old: F
     if k == 0 {
         return old;
     }
-    if k <= width::bits(w) {
-        flags_after(
-            op,
-            w,
-            width::low(w, d as u64),
-            width::low(w, s as u64),
-            k,
-            old,
-        )
+    if k <= w.bits() {
+        let operands = Operands {
+            size: w,
+            d: w.low(u64::from(d)),
+            s: w.low(u64::from(s)),
+            count: k,
+        };
+        operands.flags_after(op, old)
     } else {
         flags::all_undefined(old)
     }

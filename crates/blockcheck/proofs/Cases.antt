@@ -17,8 +17,9 @@ use Rattle.grammar.specs.Decoding.{tree, first_tree, opcode_tree, entry_tree, ac
 use Rattle.grammar.specs.Relative.{relative_of}
 use Rattle.grammar.specs.declared.rule.Repeat.{Repeat}
 use Rattle.grammar.specs.declared.instruction.Decoded.{Decoded}
-use Rattle.grammar.specs.declared.instruction.Found.{Found}
-use Rattle.grammar.specs.declared.relative.Relative.{Relative}
+use Rattle.std.specs.Prelude.{Ok, Err}
+use Rattle.grammar.specs.declared.instruction.Fault.{Fault}
+use Rattle.std.specs.Prelude.{Some}
 use Rattle.grammar.proofs.Answered.{decode_answers, found_standing}
 use Rattle.blockcheck.specs.Blocks.{starts_from, code_base, target_of, Lands, Arrives, arrives, Lawful, Good, Astray, marked, Reached, Judged, cut_at, astray_at, accepted}
 use Rattle.blockcheck.specs.Cases.{Holds, All, case_14}
@@ -33,15 +34,15 @@ plain size opcode n =
 
 -- what decode gives at the places of the four blocks, and by how much the jumps lead on
 record Decodings : Type 0 where
-  pub back : decode_of (0xEB ∷ 0xFE ∷ []) 0 ≡ Found.Instruction (plain 2 0xEB 0xFE)
-  pub on : decode_of (0xEB ∷ 0x00 ∷ []) 0 ≡ Found.Instruction (plain 2 0xEB 0x00)
-  pub into : decode_of (0xEB ∷ 0xFF ∷ 0x90 ∷ []) 0 ≡ Found.Instruction (plain 2 0xEB 0xFF)
-  pub nop : decode_of (0x90 ∷ []) 0 ≡ Found.Instruction (plain 1 0x90 0)
-  pub before_cut : decode_of (0xEB ∷ 0xFF ∷ 0xC0 ∷ []) 0 ≡ Found.Instruction (plain 2 0xEB 0xFF)
-  pub cut : decode_of (0xC0 ∷ []) 0 ≡ Found.Cut
-  pub back_by : relative_of (plain 2 0xEB 0xFE) ≡ Relative.By 0xFFFFFFFE
-  pub on_by : relative_of (plain 2 0xEB 0x00) ≡ Relative.By 0
-  pub into_by : relative_of (plain 2 0xEB 0xFF) ≡ Relative.By 0xFFFFFFFF
+  pub back : decode_of (0xEB ∷ 0xFE ∷ []) 0 ≡ Ok (plain 2 0xEB 0xFE)
+  pub on : decode_of (0xEB ∷ 0x00 ∷ []) 0 ≡ Ok (plain 2 0xEB 0x00)
+  pub into : decode_of (0xEB ∷ 0xFF ∷ 0x90 ∷ []) 0 ≡ Ok (plain 2 0xEB 0xFF)
+  pub nop : decode_of (0x90 ∷ []) 0 ≡ Ok (plain 1 0x90 0)
+  pub before_cut : decode_of (0xEB ∷ 0xFF ∷ 0xC0 ∷ []) 0 ≡ Ok (plain 2 0xEB 0xFF)
+  pub cut : decode_of (0xC0 ∷ []) 0 ≡ Err Fault.Cut
+  pub back_by : relative_of (plain 2 0xEB 0xFE) ≡ Some 0xFFFFFFFE
+  pub on_by : relative_of (plain 2 0xEB 0x00) ≡ Some 0
+  pub into_by : relative_of (plain 2 0xEB 0xFF) ≡ Some 0xFFFFFFFF
 
 -- all by computing
 decodings : Decodings
@@ -60,19 +61,19 @@ decodings =
     }
 
 -- the instruction at the front of some code
-own : (code : List ℕ) (d : Decoded) → decode_of code 0 ≡ Found.Instruction d → Instruction (take d.length code)
+own : (code : List ℕ) (d : Decoded) → decode_of code 0 ≡ Ok d → Instruction (take d.length code)
 own code d e = (found_standing code 0 d e).own
 
 -- it is lawful exactly if its displacement x lands on one of the starts
-module _ (starts code : List ℕ) (d : Decoded) (e : decode_of code 0 ≡ Found.Instruction d) (x : ℕ) (by : relative_of d ≡ Relative.By x) where
+module _ (starts code : List ℕ) (d : Decoded) (e : decode_of code 0 ≡ Ok d) (x : ℕ) (by : relative_of d ≡ Some x) where
   -- by what its displacement is
-  lawful_as : Arrives starts 0 d.length (Relative.By x) ≡ Lawful starts 0 (take d.length code) (own code d e)
+  lawful_as : Arrives starts 0 d.length (Some x) ≡ Lawful starts 0 (take d.length code) (own code d e)
   unfolding Lawful own
   lawful_as =
       let s = found_standing code 0 d e in
       let long = ap (λ (y : Decoded). y.length) (sym s.numbered) ∙ same_length s.own in
       let leads = sym by ∙ ap relative_of (sym s.numbered) in
-      ap (λ (n : ℕ). Arrives starts 0 n (Relative.By x)) long ∙ ap (Arrives starts 0 (length (take d.length code))) leads
+      ap (λ (n : ℕ). Arrives starts 0 n (Some x)) long ∙ ap (Arrives starts 0 (length (take d.length code))) leads
 
   -- if it lands, it is lawful
   lands_lawful : Lands starts (target_of 0 d.length x) → Lawful starts 0 (take d.length code) (own code d e)

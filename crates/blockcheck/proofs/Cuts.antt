@@ -7,7 +7,7 @@ use native.Mathlib.Omega.{arith}
 use lib.ListN.{length, length-append}
 use Rattle.grammar.specs.Grammar.{Instruction, Cut, done, next}
 use Rattle.grammar.specs.Answers.{numbers, Begins, Answers, instruction}
-use Rattle.grammar.specs.declared.instruction.Found.{Found}
+use Rattle.std.specs.Prelude.{Ok}
 use Rattle.grammar.proofs.Answered.{answers_unique, prefix_free, same_rest, instruction_some}
 use Rattle.blockcheck.specs.Blocks.{starts_from, Lawful, Good, Astray}
 
@@ -27,8 +27,8 @@ same_length i = ap length i.joined
 -- the same bytes are the same instruction in numbers
 same_numbers : {xs ys : List ℕ} (i : Instruction xs) (j : Instruction ys) → xs ≡ ys → numbers i.parts ≡ numbers j.parts
 same_numbers {xs} {ys} i j e =
-    let f : Answers (xs ++ []) (Found.Instruction (numbers i.parts)) = instruction (begins_with i []) in
-    let g : Answers (ys ++ []) (Found.Instruction (numbers j.parts)) = instruction (begins_with j []) in
+    let f : Answers (xs ++ []) (Ok (numbers i.parts)) = instruction (begins_with i []) in
+    let g : Answers (ys ++ []) (Ok (numbers j.parts)) = instruction (begins_with j []) in
     let u = answers_unique (rw e at f) g in
     cc
 

@@ -2,8 +2,7 @@
 use mathlib.Core.Path.{◌≡◌, refl, ap, sym, ◌∙◌}
 use mathlib.Core.List.Memᴰ
 use mathlib.Core.List.{List, [], ◌∷◌, ◌++◌, Memᴰ}
-use Prim.Native.Nat.{ℕ, zero, suc, ◌<◌, ◌≤◌}
-use native.Mathlib.Nat.{le_of_suc-le-suc, not-suc-le-zero}
+use Prim.Native.Nat.{ℕ, zero, suc, ◌<◌}
 use native.Mathlib.Omega.{arith}
 use native.Mathlib.Decide.{ℕ_discrete}
 use lib.ListN.{length, get_or, set, replicate, length-map, get_or-map}
@@ -13,8 +12,9 @@ use Rattle.grammar.specs.Grammar.{Cut}
 use Rattle.grammar.specs.Decoding.{decode_of}
 use Rattle.grammar.specs.Relative.{relative_of}
 use Rattle.grammar.specs.declared.instruction.Decoded.{Decoded}
-use Rattle.grammar.specs.declared.instruction.Found.{Found}
-use Rattle.grammar.specs.declared.relative.Relative.{Relative}
+use Rattle.std.specs.Prelude.{Ok}
+use Rattle.grammar.specs.Relative.{Relative}
+use Rattle.std.specs.Prelude.{None, Some}
 use Rattle.blockcheck.specs.Blocks.{starts_from, marked}
 use Rattle.blockcheck.specs.Passes.{Shows, mark_of, level_of, levelled, Coded}
 use Rattle.blockcheck.proofs.Marking.{marked_length, marked_more, marked_start, start_marked}
@@ -27,8 +27,8 @@ level_some mark some = rw (ne_eqb mark 0 some)
 -- a start's mark is not 0
 mark_some : (r : Relative) → mark_of r ≡ 0 → ⊥
 unfolding mark_of
-mark_some Relative.Absent e = omega arith
-mark_some (Relative.By displacement) e = omega arith
+mark_some None e = omega arith
+mark_some (Some displacement) e = omega arith
 
 -- levelled marks are as many
 levelled_length : (marks : List ℕ) → length (levelled marks) ≡ length marks
@@ -70,9 +70,9 @@ module _ {code starts marks : List ℕ} (coded : Coded code starts marks) where
   pub coded_long : length marks ≡ length code
   coded_long = sym (levelled_length marks) ∙ ap length coded.level ∙ marked_length (length code) starts
 
-  module _ (at : ℕ) (d : Decoded) (h : at < length code) (found : decode_of code at ≡ Found.Instruction d) where
+  module _ (at : ℕ) (d : Decoded) (h : at < length code) (found : decode_of code at ≡ Ok d) where
     -- with one start more, each mark is its instruction's
-    told_more : (i : ℕ) → Dec (i ≡ at) → Memᴰ i (starts ++ (at ∷ [])) → (x : Decoded) → decode_of code i ≡ Found.Instruction x
+    told_more : (i : ℕ) → Dec (i ≡ at) → Memᴰ i (starts ++ (at ∷ [])) → (x : Decoded) → decode_of code i ≡ Ok x
         → get_or (set marks at (mark_of (relative_of d))) i 0 ≡ mark_of (relative_of x)
     told_more i (yes same) m x e =
         let is : x ≡ d = cc in
@@ -103,33 +103,3 @@ coded_shows {pieces} {code} {marks} cut coded =
   where
     same : (i : ℕ) → level_of (get_or marks i 0) ≡ get_or (marked (length code) (starts_from 0 pieces)) i 0
     same i = sym (levelled_at marks i) ∙ ap (λ (l : List ℕ). get_or l i 0) coded.level
-
--- the marks before a place are levelled
-unfoldable pub levelled_to : ℕ → List ℕ → List ℕ
-levelled_to zero marks = marks
-levelled_to (suc i) [] = []
-levelled_to (suc i) (mark ∷ marks) = level_of mark ∷ levelled_to i marks
-
--- they are as many
-pub levelling_long : (i : ℕ) (marks : List ℕ) → length (levelled_to i marks) ≡ length marks
-unfolding levelled_to
-levelling_long zero marks = refl
-levelling_long (suc i) [] = refl
-levelling_long (suc i) (mark ∷ marks) = ap suc (levelling_long i marks)
-
--- one mark more is levelled
-pub levelling_more : (i : ℕ) (marks : List ℕ)
-    → set (levelled_to i marks) i (level_of (get_or (levelled_to i marks) i 0)) ≡ levelled_to (suc i) marks
-unfolding levelled_to
-levelling_more zero [] = refl
-levelling_more zero (mark ∷ marks) = refl
-levelling_more (suc i) [] = refl
-levelling_more (suc i) (mark ∷ marks) = ap (λ (l : List ℕ). level_of mark ∷ l) (levelling_more i marks)
-
--- at the end all are
-pub levelling_all : (i : ℕ) (marks : List ℕ) → length marks ≤ i → levelled_to i marks ≡ levelled marks
-unfolding levelled_to levelled
-levelling_all zero [] h = refl
-levelling_all zero (mark ∷ marks) h = absurd (not-suc-le-zero h)
-levelling_all (suc i) [] h = refl
-levelling_all (suc i) (mark ∷ marks) h = ap (λ (l : List ℕ). level_of mark ∷ l) (levelling_all i marks (le_of_suc-le-suc h))

@@ -3,11 +3,10 @@ use mathlib.Core.Path.{◌≡◌, refl, ap, sym, ◌∙◌}
 use mathlib.Core.List.Memᴰ
 use mathlib.Core.List.{List, [], ◌∷◌, ◌++◌, Memᴰ}
 use Prim.Native.Nat.{ℕ, zero, suc, ◌+◌, ◌<◌}
-use native.Mathlib.Numerals.{add-one}
 use native.Mathlib.Omega.{arith}
 use native.Mathlib.Decide.{ℕ_discrete}
-use lib.ListN.{length, get_or, set, replicate, length-set, length-replicate, length-append, replicate-append-replicate, take}
-use lib.Seq.{set_comm, get_or-set_same, get_or-set_other, take-suc-set}
+use lib.ListN.{length, get_or, set, replicate, length-set, length-replicate, length-append}
+use lib.Seq.{set_comm, get_or-set_same, get_or-set_other}
 use Rattle.grammar.specs.Grammar.{Cut, done, next}
 use Rattle.grammar.proofs.Answered.{instruction_some}
 use Rattle.blockcheck.specs.Blocks.{starts_from, marked}
@@ -83,7 +82,3 @@ pub start_marked : {pieces : List (List ℕ)} {code : List ℕ} → Cut pieces c
     → get_or (marked (length code) (starts_from 0 pieces)) i 0 ≡ 1
 start_marked {pieces} {code} cut i m =
     one_marked (length code) (starts_from 0 pieces) i (let h = starts_inside 0 cut m in omega arith) m
-
--- one mark more is cleared
-pub cleared_more : (marks : List ℕ) (i : ℕ) → i < length marks → take i marks ≡ replicate i 0 → take (i + 1) (set marks i 0) ≡ replicate (i + 1) 0
-cleared_more marks i h e = rw (add-one, take-suc-set, e, replicate-append-replicate {A = ℕ} i 1 0, add-one)

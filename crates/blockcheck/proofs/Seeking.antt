@@ -16,8 +16,10 @@ use Rattle.grammar.specs.Answers.{numbers}
 use Rattle.grammar.specs.Decoding.{decode_of}
 use Rattle.grammar.specs.Relative.{relative_of}
 use Rattle.grammar.specs.declared.instruction.Decoded.{Decoded}
-use Rattle.grammar.specs.declared.instruction.Found.{Found}
-use Rattle.grammar.specs.declared.relative.Relative.{Relative}
+use Rattle.std.specs.Prelude.{Ok, Err}
+use Rattle.grammar.specs.declared.instruction.Fault.{Fault}
+use Rattle.grammar.specs.Relative.{Relative}
+use Rattle.std.specs.Prelude.{None, Some}
 use Rattle.grammar.proofs.Answered.{instruction_some, instruction_found}
 use Rattle.blockcheck.specs.Blocks.{starts_from, code_base, target_of, Lands, Arrives, no_displacement, arrives, Lawful, Good, Astray}
 use Rattle.blockcheck.specs.Passes.{Tells, holds, fails, Shows, mark_of, Whole, Fine, Looked, onward, astray, Looks, Sought, all_good, astray_at}
@@ -61,20 +63,20 @@ module _ {marks starts : List ℕ} (shows : Shows marks starts) (address : ℕ) 
       go false e = holds (on_mark low (eqb-false (get_or marks (address - 0x1_0000) 0) 0 e))
 
 -- where a displacement that arrives leads is a start
-pub landed : {starts : List ℕ} {i n displacement : ℕ} → Arrives starts i n (Relative.By displacement) → Lands starts (target_of i n displacement)
+pub landed : {starts : List ℕ} {i n displacement : ℕ} → Arrives starts i n (Some displacement) → Lands starts (target_of i n displacement)
 landed (arrives l) = l
 
 -- a displacement arrives exactly if its target is a start
 pub arrives_as : {starts : List ℕ} {i n displacement : ℕ} {b : Bool} → Tells (Lands starts (target_of i n displacement)) b
-    → Tells (Arrives starts i n (Relative.By displacement)) b
+    → Tells (Arrives starts i n (Some displacement)) b
 arrives_as (holds l) = holds (arrives l)
 arrives_as (fails l) = fails (λ a. l (landed a))
 
 -- an instruction whose mark is not 2 has no displacement that could go astray
 arrives_unmarked : (starts : List ℕ) (i n : ℕ) (r : Relative) → (mark_of r ≡ 2 → ⊥) → Arrives starts i n r
 unfolding mark_of
-arrives_unmarked starts i n Relative.Absent other = no_displacement
-arrives_unmarked starts i n (Relative.By displacement) other = absurd (other refl)
+arrives_unmarked starts i n None other = no_displacement
+arrives_unmarked starts i n (Some displacement) other = absurd (other refl)
 
 module _ (code marks : List ℕ) (at : ℕ) where
   -- a look at any mark but 2
@@ -84,7 +86,7 @@ module _ (code marks : List ℕ) (at : ℕ) where
       onward (λ m d e. arrives_unmarked (starts_from 0 w.pieces) at d.length (relative_of d) (λ two. other (w.coded.told at m d e ∙ two)))
 
   -- a look at a found instruction, by whether it arrives
-  pub found_instruction : (x : Decoded) → decode_of code at ≡ Found.Instruction x → get_or marks at 0 ≡ 2 → {b : Bool}
+  pub found_instruction : (x : Decoded) → decode_of code at ≡ Ok x → get_or marks at 0 ≡ 2 → {b : Bool}
       → ((starts : List ℕ) → Shows marks starts → Tells (Arrives starts at x.length (relative_of x)) b) → Looks code marks at b
   unfolding Looks Fine
   found_instruction x f two tells w = go (tells (starts_from 0 w.pieces) shows)
@@ -92,22 +94,17 @@ module _ (code marks : List ℕ) (at : ℕ) where
       shows : Shows marks (starts_from 0 w.pieces)
       shows = coded_shows w.cut w.coded
 
-      same : (d : Decoded) → decode_of code at ≡ Found.Instruction d → d ≡ x
+      same : (d : Decoded) → decode_of code at ≡ Ok d → d ≡ x
       same d e = cc
 
       go : {b : Bool} → Tells (Arrives (starts_from 0 w.pieces) at x.length (relative_of x)) b → Looked code (starts_from 0 w.pieces) at b
       go (holds a) = onward (λ m d e. rw (same d e) a)
       go (fails a) = astray (shows.start at (λ none. omega arith)) (λ fine. a (fine x f))
 
-  -- a look where the code ends inside an instruction
-  pub found_cut : decode_of code at ≡ Found.Cut → Looks code marks at true
+  -- a look where no instruction stands
+  pub found_nothing : {fault : Fault} → decode_of code at ≡ Err fault → Looks code marks at true
   unfolding Looks Fine
-  found_cut f w = onward (λ m d e. absurd (let z : ◌≡◌ {A = ℕ} 0 1 = cc in omega arith))
-
-  -- a look where no instruction begins
-  pub found_unknown : decode_of code at ≡ Found.Unknown → Looks code marks at true
-  unfolding Looks Fine
-  found_unknown f w = onward (λ m d e. absurd (let z : ◌≡◌ {A = ℕ} 0 1 = cc in omega arith))
+  found_nothing f w = onward (λ m d e. absurd (let z : ◌≡◌ {A = ℕ} 0 1 = cc in omega arith))
 
 -- no start of a cut lies before its first
 starts_from_lem : {s : ℕ} (i : ℕ) (pieces : List (List ℕ)) → Memᴰ s (starts_from i pieces) → i ≤ s
@@ -191,18 +188,16 @@ module _ {code marks : List ℕ} {at : ℕ} (so : Seeking code marks at) where
       go (onward fine) s (no other) before m = so.fine s (omega arith) m
 
   -- the place is the first astray
-  pub stops : at < length code → Looks code marks at false → Sought code at
+  pub stops : Looks code marks at false → Sought code (Some at)
   unfolding Looks
-  stops h looks = go (looks so.whole)
+  stops looks = go (looks so.whole)
     where
-      go : Looked code starts at false → Sought code at
-      go (astray m wrong) = astray_at so.whole.cut h (first_wrong code starts 0 so.whole.cut refl so.fine m wrong)
+      go : Looked code starts at false → Sought code (Some at)
+      go (astray m wrong) = astray_at so.whole.cut (first_wrong code starts 0 so.whole.cut refl so.fine m wrong)
 
   -- all places are looked at: all displacements are good
-  pub ends : length code ≤ at → Sought code at
+  pub ends : length code ≤ at → Sought code None
   ends h =
-      let e : length code ≡ at = omega (arith, so.inside) in
       let fine : (s : ℕ) → Memᴰ s starts → Fine code starts s =
       λ s m. so.fine s (let in_code = starts_inside 0 so.whole.cut m in omega arith) m in
-      let all : Sought code (length code) = all_good so.whole.cut (all_fine code starts 0 so.whole.cut refl fine) in
-      rw e at all
+      all_good so.whole.cut (all_fine code starts 0 so.whole.cut refl fine)

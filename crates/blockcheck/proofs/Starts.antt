@@ -12,8 +12,8 @@ use Rattle.grammar.specs.Answers.{numbers}
 use Rattle.grammar.specs.Decoding.{decode_of}
 use Rattle.grammar.specs.Relative.{relative_of}
 use Rattle.grammar.specs.declared.instruction.Decoded.{Decoded}
-use Rattle.grammar.specs.declared.instruction.Found.{Found}
-use Rattle.grammar.specs.declared.relative.Relative.{Relative}
+use Rattle.std.specs.Prelude.{Ok}
+use Rattle.std.specs.Prelude.{Some}
 use Rattle.grammar.proofs.Answered.{found_inside, instruction_found}
 use Rattle.blockcheck.specs.Blocks.{starts_from, code_base, target_of, Lands, Arrives, Lawful, Good, Judged, accepted}
 use Rattle.blockcheck.specs.Starts.{Start, Acceptable}
@@ -72,16 +72,16 @@ module _ {code : List ℕ} {i : ℕ} (start : Start code i) where
   here = placed 0 i start.cut start.among
 
   -- it is what decode gives
-  stands : decode_of code i ≡ Found.Instruction (numbers here.own.parts)
+  stands : decode_of code i ≡ Ok (numbers here.own.parts)
   stands =
       instruction_found here.own code i here.after
       (ap (drop i) (sym here.joined) ∙ drop_at here.before (here.bytes ++ here.after) i (omega (arith, here.place)))
 
   -- at each start decode gives an instruction, which ends inside the code
-  pub start_decodes : (d : Decoded) × (decode_of code i ≡ Found.Instruction d) × (i + d.length ≤ length code)
+  pub start_decodes : (d : Decoded) × (decode_of code i ≡ Ok d) × (i + d.length ≤ length code)
   start_decodes = (numbers here.own.parts, stands, found_inside code i (numbers here.own.parts) stands)
 
-  module _ (d : Decoded) (found : decode_of code i ≡ Found.Instruction d) where
+  module _ (d : Decoded) (found : decode_of code i ≡ Ok d) where
     -- it is the one found
     same : numbers here.own.parts ≡ d
     same = let e = stands in cc
@@ -97,7 +97,7 @@ module _ {code : List ℕ} {i : ℕ} (start : Start code i) where
         (λ e. inr (omega (arith, long, here.place, ap length e, simp length-append at (ap length here.joined)))) here.follows
 
     -- in acceptable code the displacement of the instruction at a start leads to a start
-    pub displacement_lands : Acceptable code → (x : ℕ) → relative_of d ≡ Relative.By x
+    pub displacement_lands : Acceptable code → (x : ℕ) → relative_of d ≡ Some x
         → (s : ℕ) × Start code s × (target_of i d.length x ≡ code_base + s)
     unfolding Lawful Lands
     displacement_lands a x e =

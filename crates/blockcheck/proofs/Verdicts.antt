@@ -12,29 +12,30 @@ use Rattle.grammar.specs.Answers.{Begins, Prefix, instruction, cut}
 use Rattle.grammar.specs.Reading.{run}
 use Rattle.grammar.specs.Decoding.{tree, answer, found, decode_of}
 use Rattle.grammar.proofs.Answered.{decode_answers, answers_unique}
-use Rattle.blockcheck.specs.Blocks.{number_of, value_of, Sized, starts_from, Good, Astray, marked, Reached, Judged, bad_length, bad_marks, cut_at, unknown_at, astray_at, accepted}
+use Rattle.blockcheck.specs.Blocks.{Verdict, number_of, value_of, Sized, starts_from, Good, Astray, marked, Reached, Judged, bad_length, bad_marks, cut_at, unknown_at, astray_at, accepted}
 use Rattle.blockcheck.specs.Starts.{Acceptable}
-use Rattle.blockcheck.specs.declared.Verdict.{Verdict}
+use Rattle.std.specs.Prelude.{Ok, Err}
+use Rattle.blockcheck.specs.declared.Refusal.{Refusal}
 use Rattle.blockcheck.proofs.Cuts.{nothing_begins, same_reach, cut_unique, good_of, astray_of, good_not_astray, astray_unique}
 use Rattle.blockcheck.proofs.Extents.{prefix_of}
 
 -- the answer with this number and value
 verdict_of : ℕ → ℕ → Verdict
 verdict_of number value =
-    cond (eqb number 0) (Verdict.Accepted value)
-    (cond (eqb number 10) Verdict.BadLength
-    (cond (eqb number 14) Verdict.BadMarks
-    (cond (eqb number 21) (Verdict.CutAt value) (cond (eqb number 22) (Verdict.UnknownAt value) (Verdict.AstrayAt value)))))
+    cond (eqb number 0) (Ok value)
+    (cond (eqb number 10) (Err Refusal.Length)
+    (cond (eqb number 14) (Err Refusal.Marks)
+    (cond (eqb number 21) (Err (Refusal.Cut value)) (cond (eqb number 22) (Err (Refusal.Unknown value)) (Err (Refusal.Astray value))))))
 
 -- it is the answer whose number and value they are
 verdict_again : (v : Verdict) → verdict_of (number_of v) (value_of v) ≡ v
 unfolding verdict_of
-verdict_again (Verdict.Accepted n) = refl
-verdict_again Verdict.BadLength = refl
-verdict_again Verdict.BadMarks = refl
-verdict_again (Verdict.CutAt i) = refl
-verdict_again (Verdict.UnknownAt i) = refl
-verdict_again (Verdict.AstrayAt i) = refl
+verdict_again (Ok n) = refl
+verdict_again (Err Refusal.Length) = refl
+verdict_again (Err Refusal.Marks) = refl
+verdict_again (Err (Refusal.Cut i)) = refl
+verdict_again (Err (Refusal.Unknown i)) = refl
+verdict_again (Err (Refusal.Astray i)) = refl
 
 -- answers with the same number and value are the same
 pub verdict_unique : (v w : Verdict) → number_of v ≡ number_of w → value_of v ≡ value_of w → v ≡ w

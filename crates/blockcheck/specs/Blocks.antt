@@ -1,30 +1,32 @@
 -- The block check by the grammar: what it answers and what it leaves in the marks. Assumes nothing.
-use Rattle.std.specs.Prelude.{◌≡◌, ◌⊎◌, ℕ, ◌+◌, ◌%◌, ◌^◌, ◌<◌, ◌≤◌, length, set, replicate}
+use Rattle.std.specs.Prelude.{◌≡◌, ◌⊎◌, ℕ, ◌+◌, ◌%◌, ◌^◌, ◌<◌, ◌≤◌, length, set, replicate, None, Some, Result, Ok, Err}
 use mathlib.Core.List.{List, [], ◌∷◌, ◌++◌, Memᴰ}
 use Rattle.grammar.specs.Grammar.{Instruction, Cut, done, next}
 use Rattle.grammar.specs.Answers.{Begins, Prefix, numbers}
-use Rattle.grammar.specs.Relative.{relative_of}
-use Rattle.grammar.specs.declared.relative.Relative.{Relative}
-use Rattle.blockcheck.specs.declared.Verdict.{Verdict}
-use Rattle.blockcheck.specs.declared.Verdict.TheVariants.{Accepted, BadLength, BadMarks, CutAt, UnknownAt, AstrayAt}
+use Rattle.grammar.specs.Relative.{Relative, relative_of}
+use Rattle.blockcheck.specs.declared.Refusal.{Refusal}
+
+-- what the check answers: the count of instructions, or why the block is refused
+abbrev pub Verdict : Type 0
+Verdict = Result ℕ Refusal
 
 -- the paper's number of an answer; 0 for acceptance
 abbrev pub number_of : Verdict → ℕ
-number_of (Accepted n) = 0
-number_of BadLength = 10
-number_of BadMarks = 14
-number_of (CutAt i) = 21
-number_of (UnknownAt i) = 22
-number_of (AstrayAt i) = 23
+number_of (Ok n) = 0
+number_of (Err Refusal.Length) = 10
+number_of (Err Refusal.Marks) = 14
+number_of (Err (Refusal.Cut i)) = 21
+number_of (Err (Refusal.Unknown i)) = 22
+number_of (Err (Refusal.Astray i)) = 23
 
 -- the count of instructions, or the paper's offset
 abbrev pub value_of : Verdict → ℕ
-value_of (Accepted n) = n
-value_of BadLength = 0
-value_of BadMarks = 0
-value_of (CutAt i) = i
-value_of (UnknownAt i) = i
-value_of (AstrayAt i) = i
+value_of (Ok n) = n
+value_of (Err Refusal.Length) = 0
+value_of (Err Refusal.Marks) = 0
+value_of (Err (Refusal.Cut i)) = i
+value_of (Err (Refusal.Unknown i)) = i
+value_of (Err (Refusal.Astray i)) = i
 
 -- code of 1 to 65,536 bytes
 pub record Sized (code : List ℕ) : Type 0 where
@@ -50,8 +52,8 @@ Lands starts address = (s : ℕ) × Memᴰ s starts × (address ≡ code_base + 
 
 -- a displacement, if there is one, leads to one of the starts
 pub data Arrives (starts : List ℕ) (i n : ℕ) : Relative → Type 0 where
-  no_displacement : Arrives starts i n Relative.Absent
-  arrives : {displacement : ℕ} → Lands starts (target_of i n displacement) → Arrives starts i n (Relative.By displacement)
+  no_displacement : Arrives starts i n None
+  arrives : {displacement : ℕ} → Lands starts (target_of i n displacement) → Arrives starts i n (Some displacement)
 
 -- the instruction with these bytes, at offset i, goes astray or not
 unfoldable pub Lawful : List ℕ → ℕ → (bytes : List ℕ) → Instruction bytes → Type 0

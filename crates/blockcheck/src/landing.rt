@@ -1,74 +1,71 @@
-// The pass that looks where the displacements lead.
+//! The pass that looks where the displacements lead.
 ghost use Rattle.std.specs.Prelude.{◌≡◌, List, ℕ, ◌+◌, ◌<◌, ◌^◌, length};
 ghost use Rattle.grammar.specs.Relative.{relative_of};
 ghost use Rattle.blockcheck.specs.Blocks.{target_of, Lands, Arrives};
 ghost use Rattle.blockcheck.specs.Passes.{Tells, Shows, Whole, Looks, Sought};
 
-use grammar::instruction::{Decoded, Found};
+use crate::CODE;
+use grammar::instruction::Decoded;
 use grammar::reader::read;
-use grammar::relative::{Relative, relative_of};
+use grammar::relative::relative_of;
 
-// The address that a displacement leads to, from an instruction's offset and length.
+/// The address that a displacement leads to, from an instruction's offset and length.
 fn leads_to(at: usize, size: usize, displacement: u32) -> u32
     requires { at + size < 2 ^ 63 }
     ensures { result ≡ target_of at size displacement }
 {
-    ((0x1_0000 + at as u64 + size as u64 + displacement as u64) % 0x1_0000_0000) as u32
+    // In 64 bits, as the clause has it: the sum of all four, and then its rest.
+    ((CODE as u64 + at as u64 + size as u64 + u64::from(displacement)) % 0x1_0000_0000) as u32
 }
 
-// Whether a marked start lies at this address.
+/// Whether a marked start lies at this address.
 fn lands(marks: &[u8], address: u32) -> bool
     ensures { (starts : List ℕ) → Shows marks.now starts → Tells (Lands starts address) result }
 {
-    if address < 0x1_0000 {
+    if address < CODE {
         return false;
     }
-    let i = (address - 0x1_0000) as usize;
-    if marks.len() <= i {
+    let at = (address - CODE) as usize;
+    if marks.len() <= at {
         return false;
     }
-    let mark = marks[i];
-    mark != 0
+    marks[at] != 0
 }
 
-// Whether an instruction's displacement, if it has one, leads to a marked start.
+/// Whether an instruction's displacement, if it has one, leads to a marked start.
 fn arrives(marks: &[u8], at: usize, d: Decoded) -> bool
     requires { at + d.length < 2 ^ 63 }
     ensures { (starts : List ℕ) → Shows marks.now starts → Tells (Arrives starts at d.length (relative_of d)) result }
 {
     match relative_of(d) {
-        Relative::Absent => true,
-        Relative::By(displacement) => lands(marks, leads_to(at, d.length, displacement)),
+        None => true,
+        Some(displacement) => lands(marks, leads_to(at, d.length, displacement)),
     }
 }
 
-// Whether nothing goes astray here: the mark tells of no displacement, or it leads to a marked start.
+/// Whether nothing goes astray here: the mark tells of no displacement, or it leads to a marked start.
 fn looks_well(code: &[u8], marks: &[u8], at: usize) -> bool
     requires { at < length marks.now }
     ensures { Looks code.now marks.now at result }
 {
-    let mark = marks[at];
-    if mark != 2 {
+    if marks[at] != 2 {
         return true;
     }
     match read(code, at) {
-        Found::Instruction(d) => arrives(marks, at, d),
-        Found::Cut => true,
-        Found::Unknown => true,
+        Ok(d) => arrives(marks, at, d),
+        Err(_) => true,
     }
 }
 
-// The offset of the first instruction whose displacement leads to no start; the code's length where there is none.
-pub fn first_astray(code: &[u8], marks: &[u8]) -> usize
+/// The offset of the first instruction whose displacement leads to no start.
+pub fn first_astray(code: &[u8], marks: &[u8]) -> Option<usize>
     requires { Whole code.now marks.now }
     ensures { Sought code.now result }
 {
-    let mut at = 0;
-    while at < code.len() {
+    for at in 0..code.len() {
         if !looks_well(code, marks, at) {
-            return at;
+            return Some(at);
         }
-        at += 1;
     }
-    at
+    None
 }

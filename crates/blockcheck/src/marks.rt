@@ -1,36 +1,32 @@
-// The mark area.
-ghost use Rattle.std.specs.Prelude.{◌≡◌, length, replicate};
-ghost use Rattle.blockcheck.specs.Passes.{level_of, levelled};
+//! The mark area.
+ghost use Rattle.std.specs.Prelude.{◌≡◌};
+ghost use Rattle.blockcheck.specs.Passes.{level_of, levelled, finished};
 
-// Makes every mark 0.
-pub fn clear(marks: &mut [u8])
-    ensures { marks.new ≡ replicate (length marks.old) 0 }
-{
-    let mut i = 0;
-    while i < marks.len() {
-        marks[i] = 0;
-        i += 1;
-    }
-}
+use crate::Refusal;
 
-// A mark after the passes.
+/// A mark after the passes.
 fn level_of(mark: u8) -> u8
     ensures { result ≡ level_of mark }
 {
-    if mark == 0 {
-        return 0;
-    }
-    1
+    u8::from(mark != 0)
 }
 
-// Makes every mark that is not 0 a 1.
-pub fn level(marks: &mut [u8])
+/// Makes every mark that is not 0 a 1.
+#[tactic(auto, unfolding(crate::specs::Passes::levelled))]
+fn level(marks: &mut [u8])
     ensures { marks.new ≡ levelled marks.old }
 {
-    let mut i = 0;
-    while i < marks.len() {
-        let mark = marks[i];
-        marks[i] = level_of(mark);
-        i += 1;
+    for mark in marks.iter_mut() {
+        *mark = level_of(*mark);
+    }
+}
+
+/// Leaves a 1 at each start of accepted code, and no mark in refused code.
+pub fn finish(judged: Result<usize, Refusal>, marks: &mut [u8])
+    ensures { marks.new ≡ finished judged marks.old }
+{
+    match judged {
+        Ok(_) => level(marks),
+        Err(_) => marks.fill(0),
     }
 }

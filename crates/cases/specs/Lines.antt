@@ -8,7 +8,7 @@ use Rattle.grammar.specs.Cases as Bytes
 use Rattle.blockcheck.specs.Blocks.{code_base}
 use Rattle.blockcheck.specs.Cases as Blocks
 use Rattle.run.specs.declared.Lent.{Lent}
-use Rattle.run.specs.declared.Ran.{Ran}
+use Rattle.run.specs.Runs.{Ran}
 use Rattle.run.specs.Steps.{fixed_to}
 use Rattle.run.specs.Runs.{run_of}
 

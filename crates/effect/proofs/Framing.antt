@@ -7,8 +7,8 @@ use native.Mathlib.Omega.{arith}
 use Rattle.width.specs.declared.Size.{Size}
 use Rattle.width.specs.declared.Size.TheVariants.{Byte}
 use Rattle.scalar.specs.declared.Xmm.{Xmm}
-use Rattle.product.specs.declared.Division.{Division}
-use Rattle.product.specs.declared.Division.TheVariants.{Parts, Fault}
+use Rattle.std.specs.Prelude.{Option, None, Some}
+use Rattle.product.specs.declared.Parts.{Parts}
 use Rattle.machine.specs.declared.registers.Machine.{Machine}
 use Rattle.machine.specs.Registers.{register, with_register, with_eip, with_flags, with_xmm, part, with_part}
 use Rattle.machine.specs.Lending.{xmm_of}
@@ -24,9 +24,8 @@ use Rattle.plan.specs.declared.Operand.TheVariants.{Register, Memory, Number}
 use Rattle.plan.specs.declared.Address.{Address}
 use Rattle.plan.specs.declared.Plan.{Plan}
 use Rattle.plan.specs.Addresses.{scaled_index, base_register, address_base, effective_address}
-use Rattle.effect.specs.declared.outcome.Outcome.TheVariants.{Sets}
-use Rattle.effect.specs.Outcomes.{Effect, Computed}
-use Rattle.effect.specs.Changes.{lent, held, framed}
+use Rattle.effect.specs.Outcomes.{Sets, Effect, Computed}
+use Rattle.effect.specs.Framed.{lent, held, framed}
 use Rattle.effect.specs.Words.{becomes, writes, sets, faults, onward, value, assign, assigned}
 use Rattle.effect.specs.Bits.{unit_of}
 use Rattle.effect.specs.Arithmetic.{arithmetic_address, settled, doubled, multiplied, multiplied_signed, quotient, divided, divided_signed, arithmetic_effect}
@@ -158,10 +157,10 @@ module _ (m : Machine) (xmm : List Xmm) (p : Plan) where
       (becomes_framed (with_flags (onward m p) c.flags) xmm)
 
   -- a division
-  quotient_framed : (q : Division) → Framed xmm (quotient q m p) (quotient q (with_xmm m xmm) p)
+  quotient_framed : (q : Option Parts) → Framed xmm (quotient q m p) (quotient q (with_xmm m xmm) p)
   unfolding register with_register with_eip with_flags with_xmm part with_part onward doubled quotient
-  quotient_framed Fault = faults_framed m xmm
-  quotient_framed (Parts q r) = becomes_framed _ xmm
+  quotient_framed None = faults_framed m xmm
+  quotient_framed (Some d) = becomes_framed _ xmm
 
   -- what the operations that compute do
   arithmetic_framed : (op : Arithmetic) (a r : ℕ) → Framed xmm (arithmetic_effect op m p a r) (arithmetic_effect op (with_xmm m xmm) p a r)
@@ -274,34 +273,12 @@ pub lifted : (op : Operation) → on_singles op ≡ false → (regs xmm : List �
 unfolding with_xmm
 lifted op other regs xmm eip word p a r s is = framing op other (held regs eip word) (xmm_of xmm) p a r s ∙ ap (framed (xmm_of xmm)) is
 
-module _ (regs xmm : List ℕ) (eip word : ℕ) where
-  -- and asks them neither for an effective address
-  pub effective_lent : (a : Address) → effective_address (lent regs xmm eip word) a ≡ effective_address (held regs eip word) a
-  unfolding with_xmm
-  effective_lent a = effective_framed (held regs eip word) (xmm_of xmm) a
-
-  -- nor for where its operand is
-  pub address_lent : (op : Operation) (p : Plan) (a : ℕ) → address_by op (lent regs xmm eip word) p a ≡ address_by op (held regs eip word) p a
-  unfolding with_xmm
-  address_lent op p a = address_framed (held regs eip word) (xmm_of xmm) op p a
-
-  -- nor for what it reads
-  pub reads_lent : (op : Operation) (p : Plan) (a : ℕ) → reads_by op (lent regs xmm eip word) p a ≡ reads_by op (held regs eip word) p a
-  unfolding with_xmm
-  reads_lent op p a = reads_framed (held regs eip word) (xmm_of xmm) op p a
-
 -- a single assigned: which one, and its bits, hang on no other
-single_framed : (o : Operand) (a : ℕ) (m : Machine) (xmm : List Xmm) (v : ℕ) → assign_single o a (with_xmm m xmm) v ≡ framed xmm (assign_single o a m v)
+pub single_framed : (o : Operand) (a : ℕ) (m : Machine) (xmm : List Xmm) (v : ℕ) → assign_single o a (with_xmm m xmm) v ≡ framed xmm (assign_single o a m v)
 unfolding with_xmm becomes writes sets assign_single framed
 single_framed (Register i) a m xmm v = refl
 single_framed Memory a m xmm v = refl
 single_framed (Number n) a m xmm v = refl
-
--- the same beside lent XMM registers
-pub assigned_beside : (o : Operand) (a : ℕ) (regs xmm : List ℕ) (next word v : ℕ) {e : Effect}
-    → assign_single o a (held regs next word) v ≡ e → assign_single o a (lent regs xmm next word) v ≡ framed (xmm_of xmm) e
-unfolding with_xmm
-assigned_beside o a regs xmm next word v is = single_framed o a (held regs next word) (xmm_of xmm) v ∙ ap (framed (xmm_of xmm)) is
 
 -- a single assigned leaves the machine's singles as they are, for the put
 assigned_single : (o : Operand) (a : ℕ) (m : Machine) (v : ℕ) → (assign_single o a m v).machine.xmm ≡ m.xmm

@@ -1,7 +1,9 @@
 -- The laws of `effect`. Assumes nothing.
+pub mod Assign
 pub mod Choosing
-pub mod Elements
+pub mod Executed
 pub mod Framing
-pub mod Passing
+pub mod Reckoned
 pub mod Repeats
+pub mod Rounds
 pub mod Ways

@@ -5,8 +5,8 @@ use Prim.Native.Nat.{ℕ, ◌%◌}
 use lib.ListN.{length, length-set}
 use Rattle.width.specs.declared.Size.{Size}
 use Rattle.flags.specs.declared.Flags.{Flags}
-use Rattle.product.specs.declared.Division.{Division}
-use Rattle.product.specs.declared.Division.TheVariants.{Parts, Fault}
+use Rattle.std.specs.Prelude.{Option, None, Some}
+use Rattle.product.specs.declared.Parts.{Parts}
 use Rattle.machine.specs.declared.registers.Machine.{Machine}
 use Rattle.machine.specs.Registers.{with_register, with_eip, with_flags, with_part}
 use Rattle.grammar.specs.declared.rule.Repeat.{Repeat}
@@ -157,10 +157,10 @@ unfolding settled
 settled_course c m p a = chosen (Course m p false) c.assigned (falling (of_assign (flags_set (on m p) _) _ a _ _)) (falling (of_becomes (flags_set (on m p) _)))
 
 -- a division stays with a fault, and else falls
-quotient_course : (d : Division) (m : Machine) (p : Plan) → Course m p false (quotient d m p)
+quotient_course : (d : Option Parts) (m : Machine) (p : Plan) → Course m p false (quotient d m p)
 unfolding quotient faults
-quotient_course Fault m p = staying (here m)
-quotient_course (Parts q r) m p = falling (of_becomes (halves_set (flags_set (on m p) _) _ q r))
+quotient_course None m p = staying (here m)
+quotient_course (Some d) m p = falling (of_becomes (halves_set (flags_set (on m p) _) _ d.quotient d.remainder))
 
 -- an operation that computes falls, but for a division's fault
 arithmetic_course : (op : Arithmetic) (m : Machine) (p : Plan) (a r : ℕ) → Course m p false (arithmetic_effect op m p a r)

@@ -3,9 +3,7 @@ use Rattle.std.specs.Prelude.{ℕ}
 use Rattle.machine.specs.declared.registers.Machine.{Machine}
 use Rattle.sense.specs.declared.Operation.{Operation}
 use Rattle.plan.specs.declared.Plan.{Plan}
-use Rattle.effect.specs.Outcomes.{Effect}
-use Rattle.effect.specs.declared.outcome.Reads.{Reads}
-use Rattle.effect.specs.declared.outcome.Reads.TheVariants.{Nothing}
+use Rattle.effect.specs.Outcomes.{Effect, Reads, Nothing}
 use Rattle.effect.specs.Arithmetic.{arithmetic_address, arithmetic_reads, arithmetic_effect}
 use Rattle.effect.specs.Moves.{move_reads, move_effect, flagging_effect}
 use Rattle.effect.specs.Stacks.{stack_reads, stack_effect}

@@ -1,5 +1,5 @@
 -- Operations that compute: what each does, beside 003's page for it. m is the machine before, a where the operand in memory is, r what was read. Assumes nothing.
-use Rattle.std.specs.Prelude.{Bool, true, false, ℕ, if◌then◌else◌}
+use Rattle.std.specs.Prelude.{Bool, true, false, ℕ, if◌then◌else◌, Option, None, Some}
 use Rattle.width.specs.declared.Size.{Size}
 use Rattle.width.specs.declared.Size.TheVariants.{Byte, Word, Dword}
 use Rattle.flags.specs.declared.Flags.{Flags}
@@ -12,16 +12,14 @@ use Rattle.arith.specs.Single.{single_value, single_flags}
 use Rattle.shift.specs.declared.Shift.{Shift}
 use Rattle.shift.specs.Values.{shift_value}
 use Rattle.shift.specs.Changes.{shift_flags}
-use Rattle.product.specs.declared.Division.{Division}
-use Rattle.product.specs.declared.Division.TheVariants.{Parts, Fault}
+use Rattle.product.specs.declared.Parts.{Parts}
 use Rattle.product.specs.Multiply.{halves, unsigned_product, signed_product, unsigned_spills, signed_spills, product_flags}
 use Rattle.product.specs.Divide.{unsigned_division, signed_division}
 use Rattle.machine.specs.declared.registers.Machine.{Machine}
 use Rattle.machine.specs.Registers.{part, with_part, with_flags}
 use Rattle.sense.specs.declared.Arithmetic.{Arithmetic}
 use Rattle.plan.specs.declared.Plan.{Plan}
-use Rattle.effect.specs.Outcomes.{Effect, Computed}
-use Rattle.effect.specs.declared.outcome.Reads.{Reads}
+use Rattle.effect.specs.Outcomes.{Effect, Computed, Reads}
 use Rattle.effect.specs.Bits.{unit_of, bit_tested, bits_computed}
 use Rattle.effect.specs.Words.{becomes, faults, onward, value, assign, read_or, read_of}
 
@@ -111,9 +109,9 @@ multiplied_signed m p b =
     (halves p.size (signed_product p.size (part m p.size 0) b)).high)
 
 -- quotient to the accumulator, remainder to the upper half's register; the status flags are undefined
-unfoldable pub quotient : Division → Machine → Plan → Effect
-quotient Fault m p = faults m
-quotient (Parts q r) m p = becomes (doubled (with_flags (onward m p) (all_undefined m.flags)) p.size q r)
+unfoldable pub quotient : Option Parts → Machine → Plan → Effect
+quotient None m p = faults m
+quotient (Some d) m p = becomes (doubled (with_flags (onward m p) (all_undefined m.flags)) p.size d.quotient d.remainder)
 
 -- 003 "DIV"
 unfoldable pub divided : Machine → Plan → ℕ → Effect

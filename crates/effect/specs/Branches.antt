@@ -8,9 +8,7 @@ use Rattle.machine.specs.declared.registers.Machine.{Machine}
 use Rattle.machine.specs.Registers.{register, with_register, with_eip}
 use Rattle.sense.specs.declared.Branch.{Branch}
 use Rattle.plan.specs.declared.Plan.{Plan}
-use Rattle.effect.specs.Outcomes.{Effect}
-use Rattle.effect.specs.declared.outcome.Reads.{Reads}
-use Rattle.effect.specs.declared.outcome.Reads.TheVariants.{Nothing}
+use Rattle.effect.specs.Outcomes.{Effect, Reads, Nothing}
 use Rattle.effect.specs.Words.{becomes, value, read_of}
 
 -- ECX

@@ -11,9 +11,7 @@ use Rattle.machine.specs.Registers.{part, with_part, with_flags}
 use Rattle.sense.specs.declared.Move.{Move}
 use Rattle.sense.specs.declared.Flagging.{Flagging}
 use Rattle.plan.specs.declared.Plan.{Plan}
-use Rattle.effect.specs.Outcomes.{Effect}
-use Rattle.effect.specs.declared.outcome.Reads.{Reads}
-use Rattle.effect.specs.declared.outcome.Reads.TheVariants.{Nothing}
+use Rattle.effect.specs.Outcomes.{Effect, Reads, Nothing}
 use Rattle.effect.specs.Words.{becomes, onward, value, assign, assigned, read_of}
 
 -- the source is read, by MOVZX and MOVSX at its own size, by CMOVcc whether its condition is met or not; of XCHG the destination

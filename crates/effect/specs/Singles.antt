@@ -9,8 +9,7 @@ use Rattle.sense.specs.declared.Operation.{Operation}
 use Rattle.plan.specs.declared.Operand.{Operand}
 use Rattle.plan.specs.declared.Operand.TheVariants.{Register, Memory, Number}
 use Rattle.plan.specs.declared.Plan.{Plan}
-use Rattle.effect.specs.Outcomes.{Effect}
-use Rattle.effect.specs.declared.outcome.Reads.{Reads}
+use Rattle.effect.specs.Outcomes.{Effect, Reads}
 use Rattle.effect.specs.Words.{becomes, writes, sets, onward, read_of}
 
 -- an operand's single: that of an XMM register, or the 4 bytes that were read

@@ -7,9 +7,7 @@ use Rattle.machine.specs.declared.registers.Machine.{Machine}
 use Rattle.machine.specs.Registers.{register, with_register, with_eip}
 use Rattle.sense.specs.declared.Stack.{Stack}
 use Rattle.plan.specs.declared.Plan.{Plan}
-use Rattle.effect.specs.Outcomes.{Effect}
-use Rattle.effect.specs.declared.outcome.Reads.{Reads}
-use Rattle.effect.specs.declared.outcome.Reads.TheVariants.{Nothing, One}
+use Rattle.effect.specs.Outcomes.{Effect, Reads, Nothing, One}
 use Rattle.effect.specs.Words.{becomes, writes, onward, value, assign, read_of}
 
 -- ESP and EBP

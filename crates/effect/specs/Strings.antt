@@ -12,9 +12,7 @@ use Rattle.machine.specs.Registers.{register, with_register, with_eip, with_flag
 use Rattle.grammar.specs.declared.rule.Repeat.{Repeat}
 use Rattle.sense.specs.declared.Strings.{Strings}
 use Rattle.plan.specs.declared.Plan.{Plan}
-use Rattle.effect.specs.Outcomes.{Effect}
-use Rattle.effect.specs.declared.outcome.Reads.{Reads}
-use Rattle.effect.specs.declared.outcome.Reads.TheVariants.{Nothing, One, Two}
+use Rattle.effect.specs.Outcomes.{Effect, Reads, Nothing, One, Two}
 use Rattle.effect.specs.Words.{becomes, writes, onward}
 use Rattle.effect.specs.Branches.{ecx, counted}
 

@@ -7,10 +7,7 @@ use Rattle.machine.specs.Registers.{part, with_part, with_eip}
 use Rattle.plan.specs.declared.Operand.{Operand}
 use Rattle.plan.specs.declared.Operand.TheVariants.{Register, Memory, Number}
 use Rattle.plan.specs.declared.Plan.{Plan}
-use Rattle.effect.specs.declared.outcome.Outcome.TheVariants.{Becomes, Writes, Sets, Faults}
-use Rattle.effect.specs.Outcomes.{Effect}
-use Rattle.effect.specs.declared.outcome.Reads.{Reads}
-use Rattle.effect.specs.declared.outcome.Reads.TheVariants.{Nothing, One}
+use Rattle.effect.specs.Outcomes.{Becomes, Writes, Sets, Faults, Effect, Reads, Nothing, One}
 
 -- the next machine, with no write
 unfoldable pub becomes : Machine → Effect

@@ -1,76 +1,45 @@
-// Where the operand in memory of a plan's operation is, what it reads, and then does.
+//! One step of a plan.
+//! Machine, plan and memory stay apart throughout: the machine is changed after the memory, and the plan never is.
 ghost use Rattle.std.specs.Prelude.{◌≡◌};
-ghost use Rattle.machine.specs.Lending.{xmm_of, Gives};
-ghost use Rattle.effect.specs.Changes.{lent, framed, applied};
-ghost use Rattle.effect.specs.All.{address_by, reads_by, effect_by};
+ghost use Rattle.effect.specs.Performing.{planned};
+ghost use Rattle.machine.specs.Answers.{SameAreas};
+ghost use Rattle.effect.specs.Does.{Does};
 
-use crate::arithmetic::{arithmetic_address, arithmetic_effect, arithmetic_reads};
-use crate::branches::{branch_effect, branch_reads};
-use crate::moves::{flagging_effect, move_effect, move_reads};
-use crate::outcome::{Changes, Reads};
-use crate::rounds::{string_effect, string_reads};
-use crate::singles::{single_compared, single_computed, single_moved, single_reads};
-use crate::stacks::{stack_effect, stack_reads};
+use crate::arithmetic;
+use crate::branches::branch;
+use crate::moves::{flagging, moves};
+use crate::singles::{compare_single, compute_single, move_single};
+use crate::stacks::stack;
+use crate::stop::Stop;
+use crate::strings::string;
+use machine::memory::Memory;
+use machine::registers::Machine;
 use plan::Plan;
 use sense::Operation;
 
-// Where its operand in memory is, where a is the effective address.
-pub fn address_by(operation: Operation, regs: &[u32; 8], p: Plan, a: u32) -> u32
-    ensures { Gives regs.now (λ m. address_by operation m p a) result }
+/// One step of a plan.
+#[inline(always)]
+#[tactic(auto, using(crate::proofs::Executed::planned_is, crate::proofs::Assign::done_becomes), unfolding(crate::specs::Does::executed_of, crate::specs::Does::did, crate::specs::Does::got_of, crate::specs::Rounds::string_of, crate::specs::All::address_by, crate::specs::All::reads_by, crate::specs::All::effect_by))]
+pub fn execute(m: &mut Machine, p: &Plan, memory: &mut Memory) -> Result<(), Stop>
+    ensures does { Does (planned memory.old.constants.now p.now m.old memory.old.area.now) m.old memory.old.area.now result m.new memory.new.area.now }
+    ensures same_areas { SameAreas memory.old memory.new }
 {
-    match operation {
-        Operation::Arithmetic(op) => arithmetic_address(op, regs, p, a),
-        Operation::Move(_) => a,
-        Operation::Flagging(_) => a,
-        Operation::Stack(_) => a,
-        Operation::Branch(_) => a,
-        Operation::Strings(_) => a,
-        Operation::MoveSingle => a,
-        Operation::ComputeSingle(_) => a,
-        Operation::CompareSingle => a,
-    }
-}
-
-// What it reads, in this order, where a is that address.
-pub fn reads_by(operation: Operation, regs: &[u32; 8], p: Plan, a: u32) -> Reads
-    ensures { Gives regs.now (λ m. reads_by operation m p a) result }
-{
-    match operation {
-        Operation::Arithmetic(_) => arithmetic_reads(p, a),
-        Operation::Move(op) => move_reads(op, p, a),
-        Operation::Flagging(_) => Reads::Nothing,
-        Operation::Stack(op) => stack_reads(op, regs, p, a),
-        Operation::Branch(op) => branch_reads(op, p, a),
-        Operation::Strings(op) => string_reads(op, regs, p),
-        Operation::MoveSingle => single_reads(p, a),
-        Operation::ComputeSingle(_) => single_reads(p, a),
-        Operation::CompareSingle => single_reads(p, a),
-    }
-}
-
-// What it changes, where a is that address, and r and s are what was read.
-pub fn effect_by(
-    operation: Operation,
-    regs: &[u32; 8],
-    xmm: &[u32; 8],
-    eip: u32,
-    word: u32,
-    p: Plan,
-    a: u32,
-    r: u32,
-    s: u32,
-) -> Changes
-    ensures { effect_by operation (lent regs.now xmm.now eip word) p a r s ≡ framed (xmm_of xmm.now) (applied result regs.now) }
-{
-    match operation {
-        Operation::Arithmetic(op) => arithmetic_effect(op, regs, eip, word, p, a, r),
-        Operation::Move(op) => move_effect(op, regs, word, p, a, r),
-        Operation::Flagging(op) => flagging_effect(op, word, p),
-        Operation::Stack(op) => stack_effect(op, regs, word, p, a, r),
-        Operation::Branch(op) => branch_effect(op, regs, word, p, r),
-        Operation::Strings(op) => string_effect(op, regs, eip, word, p, r, s),
-        Operation::MoveSingle => single_moved(xmm, word, p, a, r),
-        Operation::ComputeSingle(op) => single_computed(op, xmm, word, p, a, r),
-        Operation::CompareSingle => single_compared(xmm, word, p, r),
+    let a = plan::effective_address(m, p.address);
+    match p.operation {
+        Operation::Arithmetic(op) => {
+            let b = arithmetic::address(m, op, p, a);
+            arithmetic::arithmetic(m, op, p, b, memory)
+        }
+        Operation::Move(op) => moves(m, op, p, a, memory),
+        Operation::Flagging(op) => {
+            flagging(m, op, p);
+            Ok(())
+        }
+        Operation::Stack(op) => stack(m, op, p, a, memory),
+        Operation::Branch(op) => branch(m, op, p, a, memory),
+        Operation::Strings(op) => string(m, op, p, memory),
+        Operation::MoveSingle => move_single(m, p, a, memory),
+        Operation::ComputeSingle(op) => compute_single(m, op, p, a, memory),
+        Operation::CompareSingle => compare_single(m, p, a, memory),
     }
 }

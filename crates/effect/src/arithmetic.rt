@@ -1,265 +1,308 @@
-// Operations that compute: what each reads, and then does.
+//! Operations that compute.
 ghost use Rattle.std.specs.Prelude.{◌≡◌};
-ghost use Rattle.flags.specs.Word.{flags_of};
-ghost use Rattle.machine.specs.Lending.{Gives};
-ghost use Rattle.effect.specs.Words as W;
-ghost use Rattle.effect.specs.Changes.{held, applied, Changing, computed};
+ghost use Rattle.machine.specs.Registers.{with_flags};
+ghost use Rattle.product.specs.Multiply.{product_flags};
 ghost use Rattle.effect.specs.Arithmetic as Op;
+ghost use Rattle.effect.specs.Bits as Bit;
+ghost use Rattle.effect.specs.Words as W;
+ghost use Rattle.machine.specs.Answers.{SameAreas};
+ghost use Rattle.effect.specs.Does.{Performs, Commits, got_of, got_as};
+ghost use Rattle.effect.specs.Reckoned.{reckoned_as, settled_by, Comes};
 
-use crate::bitwise::{bits_computed, unit_of};
-use crate::outcome::{Changes, Reads};
-use crate::words::{assign, becomes, faults, none, read_of, read_or, value};
+use crate::stop::Stop;
+use crate::words::{assign, value, write};
 use arith::{Binary, Single};
-use machine::registers::{part, part_change};
-use plan::Plan;
-use product::Division;
+use bits::{BitTest, DoubleShift, Scan};
+use flags::Word;
+use machine::memory::{Memory, Outside};
+use machine::registers::{AH, EAX, EDX, Machine};
+use plan::{Operand, Plan};
+use product::{Parts, Product};
 use sense::{Arithmetic, Bits};
 use shift::Shift;
 use width::Size;
 
-// Where the operand in memory is: at the effective address; of a string of bits, the unit that holds the bit.
-pub fn arithmetic_address(op: Arithmetic, regs: &[u32; 8], p: Plan, a: u32) -> u32
-    ensures { Gives regs.now (λ m. Op.arithmetic_address op m p a) result }
-{
-    match op {
-        Arithmetic::Binary(_) => a,
-        Arithmetic::Test => a,
-        Arithmetic::Single(_) => a,
-        Arithmetic::Shift(_) => a,
-        Arithmetic::Mul => a,
-        Arithmetic::Imul => a,
-        Arithmetic::ImulLow => a,
-        Arithmetic::Div => a,
-        Arithmetic::Idiv => a,
-        Arithmetic::Bits(_) => a,
-        Arithmetic::BitString(_) => unit_of(regs, p, a),
-    }
-}
-
-// The memory operand is read, be it source or destination.
-pub fn arithmetic_reads(p: Plan, a: u32) -> Reads
-    ensures { result ≡ Op.arithmetic_reads p a }
-{
-    let w = p.size;
-    let d = p.destination;
-    let s = p.source;
-    read_or(s, a, w, read_of(d, a, w))
-}
-
-// What an operation computes: the flags word, and a value that is assigned to DEST or not.
-#[derive(Clone, Copy)]
+/// What an operation computes: the flags, and a value where it is assigned.
+#[derive(Drop)]
 pub struct Reckoned {
-    pub word: u32,
-    pub value: u32,
-    pub assigned: bool,
+    pub flags: Word,
+    pub value: Option<u32>,
 }
 
-// Whether a binary operation assigns its value: CMP does not.
-fn assigns(op: Binary) -> bool
-    ensures { result ≡ Op.assigns op }
+/// What is read of two operands, of which at most one lies in memory.
+#[inline(always)]
+#[tactic(auto, unfolding(crate::specs::Does::got_of, crate::specs::Arithmetic::arithmetic_reads, crate::specs::Words::read_of, crate::specs::Words::read_or))]
+fn fetch(p: &Plan, a: u32, memory: &Memory) -> Result<u32, Outside>
+    ensures { got_of memory.now.constants.now memory.now.area.now (Op.arithmetic_reads p.now a) ≡ got_as result }
+{
+    match (p.source, p.destination) {
+        (Operand::Memory, _) | (_, Operand::Memory) => memory.load(p.size, a),
+        _ => Ok(0),
+    }
+}
+
+/// 003 "ADD", "OR", "ADC", "SBB", "AND", "SUB", "XOR", "CMP": DEST op SRC.
+#[inline(always)]
+#[tactic(auto, unfolding(crate::specs::Arithmetic::binary, crate::specs::Arithmetic::assigns))]
+fn binary(op: Binary, w: Size, a: u32, b: u32, f: &Word) -> Reckoned
+    ensures { result ≡ reckoned_as (Op.binary op w a b f.now) }
+{
+    let r = arith::binary_worked(op, w, a, b, f.bits());
+    Reckoned {
+        flags: Word::of_bits(r.word),
+        value: match op {
+            Binary::Cmp => None,
+            Binary::Add
+            | Binary::Or
+            | Binary::Adc
+            | Binary::Sbb
+            | Binary::And
+            | Binary::Sub
+            | Binary::Xor => Some(r.value),
+        },
+    }
+}
+
+/// 003 "TEST": the flags of DEST AND SRC.
+#[inline(always)]
+#[tactic(auto, using(crate::proofs::Reckoned::tested))]
+fn test(w: Size, a: u32, b: u32, f: &Word) -> Reckoned
+    ensures { result ≡ reckoned_as (Op.test w a b f.now) }
+{
+    let r = arith::binary_worked(Binary::And, w, a, b, f.bits());
+    Reckoned {
+        flags: Word::of_bits(r.word),
+        value: None,
+    }
+}
+
+/// 003 "INC", "DEC", "NOT", "NEG": op DEST.
+#[inline(always)]
+#[tactic(auto, unfolding(crate::specs::Arithmetic::single))]
+fn single(op: Single, w: Size, a: u32, f: &Word) -> Reckoned
+    ensures { result ≡ reckoned_as (Op.single op w a f.now) }
+{
+    let r = arith::single_worked(op, w, a, f.bits());
+    Reckoned {
+        flags: Word::of_bits(r.word),
+        value: Some(r.value),
+    }
+}
+
+/// 003 "RCL/RCR/ROL/ROR", "SAL/SAR/SHL/SHR": DEST moved by the count.
+#[tactic(auto, unfolding(crate::specs::Arithmetic::shift))]
+fn shift(op: Shift, w: Size, a: u32, count: u32, f: &Word) -> Reckoned
+    ensures { result ≡ reckoned_as (Op.shift op w a count f.now) }
+{
+    let f = f.unpack();
+    Reckoned {
+        flags: Word::pack(shift::shift_flags(op, w, a, count, f)),
+        value: Some(shift::shift_value(op, w, a, count, f.cf)),
+    }
+}
+
+/// 003 "IMUL", two and three operands: the low half.
+#[tactic(auto, unfolding(crate::specs::Arithmetic::multiplied_low))]
+fn multiplied_low(w: Size, a: u32, b: u32, f: &Word) -> Reckoned
+    ensures { result ≡ reckoned_as (Op.multiplied_low w a b f.now) }
+{
+    let g = product::product_flags(product::imul_spills(w, a, b), f.unpack());
+    Reckoned {
+        flags: Word::pack(g),
+        value: Some(product::imul(w, a, b).low),
+    }
+}
+
+/// 003 "BT", "BTS", "BTR", "BTC": CF ← the bit of DEST at the offset SRC, and that bit is changed.
+#[tactic(auto, unfolding(crate::specs::Bits::bit_tested, crate::specs::Bits::changes))]
+fn bit_tested(op: BitTest, w: Size, v: u32, offset: u32, f: &Word) -> Reckoned
+    ensures { result ≡ reckoned_as (Bit.bit_tested op w v offset f.now) }
+{
+    Reckoned {
+        flags: Word::pack(bits::tests::test_flags(w, v, offset, f.unpack())),
+        value: match op {
+            BitTest::Bt => None,
+            BitTest::Bts | BitTest::Btr | BitTest::Btc => Some(bits::tests::test_value(
+                op, w, v, offset,
+            )),
+        },
+    }
+}
+
+/// 003 "BSF", "BSR": DEST ← the index of SRC's lowest or highest one; of 0 DEST keeps its value.
+#[tactic(auto, unfolding(crate::specs::Bits::scanned))]
+fn scanned(op: Scan, v: u32, f: &Word) -> Reckoned
+    ensures { result ≡ reckoned_as (Bit.scanned op v f.now) }
+{
+    Reckoned {
+        flags: Word::pack(bits::scans::scan_flags(v, f.unpack())),
+        value: if v == 0 {
+            None
+        } else {
+            Some(bits::scans::scan_value(op, v))
+        },
+    }
+}
+
+/// 003 "SHLD", "SHRD": DEST moved by the count, with SRC behind it.
+#[tactic(auto, unfolding(crate::specs::Bits::double_shifted))]
+fn double_shifted(op: DoubleShift, w: Size, d: u32, s: u32, count: u32, f: &Word) -> Reckoned
+    ensures { result ≡ reckoned_as (Bit.double_shifted op w d s count f.now) }
+{
+    Reckoned {
+        flags: Word::pack(bits::doubles::double_flags(op, w, d, s, count, f.unpack())),
+        value: Some(bits::doubles::double_value(op, w, d, s, count)),
+    }
+}
+
+/// What an operation on bits computes.
+#[tactic(auto, unfolding(crate::specs::Bits::bits_computed))]
+fn bits_computed(op: Bits, w: Size, d: u32, s: u32, count: u32, f: &Word) -> Reckoned
+    ensures { result ≡ reckoned_as (Bit.bits_computed op w d s count f.now) }
 {
     match op {
-        Binary::Add
-        | Binary::Or
-        | Binary::Adc
-        | Binary::Sbb
-        | Binary::And
-        | Binary::Sub
-        | Binary::Xor => true,
-        Binary::Cmp => false,
+        Bits::Test(o) => bit_tested(o, w, d, s, f),
+        Bits::Scan(o) => scanned(o, s, f),
+        Bits::Double(o) => double_shifted(o, w, d, s, count, f),
     }
 }
 
-// 003 "ADD", "OR", "ADC", "SBB", "AND", "SUB", "XOR", "CMP": DEST op SRC.
-fn binary(op: Binary, w: Size, a: u32, b: u32, word: u32) -> Reckoned
-    ensures { computed result ≡ Op.binary op w a b (flags_of word) }
+/// DEST ← the value, where one is assigned, and the flags.
+#[inline(always)]
+#[tactic(auto, using(crate::proofs::Assign::done_assign, crate::proofs::Assign::done_becomes), unfolding(crate::specs::Reckoned::settled_by, crate::specs::Reckoned::settled_with, crate::specs::Words::onward))]
+fn settle(m: &mut Machine, p: &Plan, a: u32, c: Reckoned, memory: &mut Memory) -> Result<(), Stop>
+    ensures does { Commits (settled_by c m.old p.now a) m.old memory.old result m.new memory.new }
+    ensures same_areas { SameAreas memory.old memory.new }
 {
-    let r = arith::binary_worked(op, w, a, b, word);
-    Reckoned {
-        word: r.word,
-        value: r.value,
-        assigned: assigns(op),
+    if let Some(v) = c.value {
+        write(p.destination, p.size, a, v, memory).map_err(Stop::Write)?;
+        m.set_eip(p.next);
+        m.set_flags(c.flags);
+        assign(m, p.destination, p.size, v);
+    } else {
+        m.set_eip(p.next);
+        m.set_flags(c.flags);
     }
+    Ok(())
 }
 
-// 003 "TEST": the flags of DEST AND SRC.
-fn test(w: Size, a: u32, b: u32, word: u32) -> Reckoned
-    ensures { computed result ≡ Op.test w a b (flags_of word) }
-{
-    let r = arith::binary_worked(Binary::And, w, a, b, word);
-    Reckoned {
-        word: r.word,
-        value: 0,
-        assigned: false,
-    }
-}
-
-// 003 "INC", "DEC", "NOT", "NEG": op DEST.
-fn single(op: Single, w: Size, a: u32, word: u32) -> Reckoned
-    ensures { computed result ≡ Op.single op w a (flags_of word) }
-{
-    let r = arith::single_worked(op, w, a, word);
-    Reckoned {
-        word: r.word,
-        value: r.value,
-        assigned: true,
-    }
-}
-
-// 003 "RCL/RCR/ROL/ROR", "SAL/SAR/SHL/SHR": DEST moved by the count.
-fn shift(op: Shift, w: Size, a: u32, count: u32, word: u32) -> Reckoned
-    ensures { computed result ≡ Op.shift op w a count (flags_of word) }
-{
-    let f = flags::unpack(word);
-    Reckoned {
-        word: flags::pack(shift::shift_flags(op, w, a, count, f)),
-        value: shift::shift_value(op, w, a, count, f.cf),
-        assigned: true,
-    }
-}
-
-// 003 "IMUL", two and three operands: the low half.
-fn multiplied_low(w: Size, a: u32, b: u32, word: u32) -> Reckoned
-    ensures { computed result ≡ Op.multiplied_low w a b (flags_of word) }
-{
-    let f = flags::unpack(word);
-    let n = product::imul(w, a, b);
-    Reckoned {
-        word: flags::pack(product::product_flags(product::imul_spills(w, a, b), f)),
-        value: n.low,
-        assigned: true,
-    }
-}
-
-// DEST ← the value that was computed, if it is to be assigned, and the flags.
-fn settled(c: Reckoned, regs: &[u32; 8], p: Plan, a: u32) -> Changes
-    ensures { Gives regs.now (λ m. Op.settled (computed c) m p a) (applied result regs.now) }
-{
-    if c.assigned {
-        let d = p.destination;
-        let w = p.size;
-        return assign(none(), d, a, regs, p.next, c.word, w, c.value);
-    }
-    becomes(p.next, c.word, none(), none())
-}
-
-// The upper half's register: AH beside AL, DX beside AX, EDX beside EAX.
+/// The upper half's register: AH beside AL, DX beside AX, EDX beside EAX.
+#[inline(always)]
+#[tactic(auto, unfolding(crate::specs::Arithmetic::upper))]
 fn upper(w: Size) -> u32
     ensures { result ≡ Op.upper w }
 {
     match w {
-        Size::Byte => 4,
-        Size::Word => 2,
-        Size::Dword => 2,
+        Size::Byte => AH,
+        Size::Word | Size::Dword => EDX,
     }
 }
 
-// The accumulator and the upper half's register assigned.
-fn doubled(regs: &[u32; 8], next: u32, word: u32, w: Size, low: u32, high: u32) -> Changes
-    ensures { W.becomes (Op.doubled (held regs.now next word) w low high) ≡ applied result regs.now }
+/// The accumulator and the upper half's register assigned, and the flags, and on.
+#[tactic(auto, unfolding(crate::specs::Arithmetic::doubled, crate::specs::Words::onward))]
+fn doubled(m: &mut Machine, p: &Plan, flags: Word, low: u32, high: u32)
+    ensures { m.new ≡ Op.doubled (with_flags (W.onward m.old p.now) flags) p.now.size low high }
 {
-    let h = upper(w);
-    let first = part_change(none(), regs, w, 0, low);
-    becomes(next, word, first, part_change(first, regs, w, h, high))
+    m.set_eip(p.next);
+    m.set_flags(flags);
+    m.set_part(p.size, EAX, low);
+    m.set_part(p.size, upper(p.size), high);
 }
 
-// 003 "MUL": the upper half and the accumulator ← accumulator times SRC.
-fn multiplied(regs: &[u32; 8], word: u32, p: Plan, b: u32) -> Changes
-    ensures { Changing regs.now word (λ m. Op.multiplied m p b) result }
+/// 003 "MUL", "IMUL" of one operand: the upper half and the accumulator ← the product n, whose flags tell whether it spills.
+#[tactic(auto, unfolding(crate::specs::Words::onward))]
+fn multiplied(m: &mut Machine, p: &Plan, n: Product, spills: bool)
+    ensures { m.new ≡ Op.doubled (with_flags (W.onward m.old p.now) (product_flags spills m.old.flags)) p.now.size n.low n.high }
 {
-    let w = p.size;
-    let f = flags::unpack(word);
-    let a = part(regs, w, 0);
-    let g = product::product_flags(product::mul_spills(w, a, b), f);
-    let n = product::mul(w, a, b);
-    doubled(regs, p.next, flags::pack(g), w, n.low, n.high)
+    let f = product::product_flags(spills, m.flags().unpack());
+    doubled(m, p, Word::pack(f), n.low, n.high);
 }
 
-// 003 "IMUL", one operand: the same, signed.
-fn multiplied_signed(regs: &[u32; 8], word: u32, p: Plan, b: u32) -> Changes
-    ensures { Changing regs.now word (λ m. Op.multiplied_signed m p b) result }
+/// 003 "DIV", "IDIV": quotient to the accumulator, remainder to the upper half's register; the status flags are undefined.
+#[tactic(auto, unfolding(crate::specs::Arithmetic::quotient))]
+fn divided(m: &mut Machine, p: &Plan, d: Option<Parts>) -> Result<(), Stop>
+    ensures { Comes (Op.quotient d m.old p.now) m.old result m.new }
 {
-    let w = p.size;
-    let f = flags::unpack(word);
-    let a = part(regs, w, 0);
-    let g = product::product_flags(product::imul_spills(w, a, b), f);
-    let n = product::imul(w, a, b);
-    doubled(regs, p.next, flags::pack(g), w, n.low, n.high)
+    let d = d.ok_or(Stop::Divide)?;
+    let f = flags::all_undefined(m.flags().unpack());
+    doubled(m, p, Word::pack(f), d.quotient, d.remainder);
+    Ok(())
 }
 
-// Quotient to the accumulator, remainder to the upper half's register; the status flags are undefined.
-fn quotient(d: Division, regs: &[u32; 8], eip: u32, word: u32, p: Plan) -> Changes
-    ensures { Op.quotient d (held regs.now eip word) p ≡ applied result regs.now }
+/// Where the operand in memory is: of a string of bits the unit that holds the bit.
+#[inline(always)]
+#[tactic(auto, unfolding(crate::specs::Arithmetic::arithmetic_address, crate::specs::Bits::unit_of))]
+pub fn address(m: &Machine, op: Arithmetic, p: &Plan, a: u32) -> u32
+    ensures { result ≡ Op.arithmetic_address op m.now p.now a }
 {
-    match d {
-        Division::Parts {
-            quotient: q,
-            remainder: r,
-        } => {
-            let w = p.size;
-            let f = flags::unpack(word);
-            let g = flags::all_undefined(f);
-            doubled(regs, p.next, flags::pack(g), w, q, r)
-        }
-        Division::Fault => faults(eip, word),
+    match op {
+        Arithmetic::BitString(_) => bits::tests::unit_address(
+            p.size,
+            a,
+            value(m, p.source, 0, p.size),
+        ),
+        Arithmetic::Binary(_)
+        | Arithmetic::Test
+        | Arithmetic::Single(_)
+        | Arithmetic::Shift(_)
+        | Arithmetic::Mul
+        | Arithmetic::Imul
+        | Arithmetic::ImulLow
+        | Arithmetic::Div
+        | Arithmetic::Idiv
+        | Arithmetic::Bits(_) => a,
     }
 }
 
-// 003 "DIV".
-fn divided(regs: &[u32; 8], eip: u32, word: u32, p: Plan, d: u32) -> Changes
-    ensures { Op.divided (held regs.now eip word) p d ≡ applied result regs.now }
-{
-    let w = p.size;
-    let high = part(regs, w, upper(w));
-    let low = part(regs, w, 0);
-    quotient(product::div(w, high, low, d), regs, eip, word, p)
-}
-
-// 003 "IDIV".
-fn divided_signed(regs: &[u32; 8], eip: u32, word: u32, p: Plan, d: u32) -> Changes
-    ensures { Op.divided_signed (held regs.now eip word) p d ≡ applied result regs.now }
-{
-    let w = p.size;
-    let high = part(regs, w, upper(w));
-    let low = part(regs, w, 0);
-    quotient(product::idiv(w, high, low, d), regs, eip, word, p)
-}
-
-// What the operation does; r is what was read.
-pub fn arithmetic_effect(
+/// What the operation does, where a is the address that `address` gives.
+#[tactic(auto, using(crate::proofs::Reckoned::done_settled, crate::proofs::Assign::done_becomes, crate::proofs::Assign::done_faults), unfolding(crate::specs::Does::did, crate::specs::Arithmetic::arithmetic_effect, crate::specs::Arithmetic::multiplied, crate::specs::Arithmetic::multiplied_signed, crate::specs::Arithmetic::divided, crate::specs::Arithmetic::divided_signed))]
+pub fn arithmetic(
+    m: &mut Machine,
     op: Arithmetic,
-    regs: &[u32; 8],
-    eip: u32,
-    word: u32,
-    p: Plan,
+    p: &Plan,
     a: u32,
-    r: u32,
-) -> Changes
-    ensures { Op.arithmetic_effect op (held regs.now eip word) p a r ≡ applied result regs.now }
+    memory: &mut Memory,
+) -> Result<(), Stop>
+    ensures does { Performs (Op.arithmetic_reads p.now a) (λ r s. Op.arithmetic_effect op m.old p.now a r) m.old memory.old result m.new memory.new }
+    ensures same_areas { SameAreas memory.old memory.new }
 {
     let w = p.size;
-    let d = p.destination;
-    let s = p.source;
-    let x = value(d, regs, r, w);
-    let y = value(s, regs, r, w);
+    let r = fetch(p, a, memory).map_err(Stop::Read)?;
+    let x = value(m, p.destination, r, w);
+    let y = value(m, p.source, r, w);
     let c = match op {
-        Arithmetic::Binary(o) => binary(o, w, x, y, word),
-        Arithmetic::Test => test(w, x, y, word),
-        Arithmetic::Single(o) => single(o, w, x, word),
-        Arithmetic::Shift(o) => shift(o, w, x, value(s, regs, r, Size::Byte), word),
-        Arithmetic::Mul => return multiplied(regs, word, p, x),
-        Arithmetic::Imul => return multiplied_signed(regs, word, p, x),
-        Arithmetic::ImulLow => {
-            let t = p.other;
-            multiplied_low(w, y, value(t, regs, r, w), word)
+        Arithmetic::Binary(o) => binary(o, w, x, y, m.flags()),
+        Arithmetic::Test => test(w, x, y, m.flags()),
+        Arithmetic::Single(o) => single(o, w, x, m.flags()),
+        Arithmetic::Shift(o) => shift(o, w, x, value(m, p.source, r, Size::Byte), m.flags()),
+        Arithmetic::Mul => {
+            let a = m.part(w, EAX);
+            multiplied(m, p, product::mul(w, a, x), product::mul_spills(w, a, x));
+            return Ok(());
         }
-        Arithmetic::Div => return divided(regs, eip, word, p, x),
-        Arithmetic::Idiv => return divided_signed(regs, eip, word, p, x),
-        Arithmetic::Bits(o) => {
-            let t = p.other;
-            bits_computed(o, w, x, y, value(t, regs, r, Size::Byte), word)
+        Arithmetic::Imul => {
+            let a = m.part(w, EAX);
+            multiplied(m, p, product::imul(w, a, x), product::imul_spills(w, a, x));
+            return Ok(());
         }
-        Arithmetic::BitString(o) => bits_computed(Bits::Test(o), w, x, y, 0, word),
+        Arithmetic::ImulLow => multiplied_low(w, y, value(m, p.other, r, w), m.flags()),
+        Arithmetic::Div => {
+            let (high, low) = (m.part(w, upper(w)), m.part(w, EAX));
+            return divided(m, p, product::div(w, high, low, x));
+        }
+        Arithmetic::Idiv => {
+            let (high, low) = (m.part(w, upper(w)), m.part(w, EAX));
+            return divided(m, p, product::idiv(w, high, low, x));
+        }
+        Arithmetic::Bits(o) => bits_computed(
+            o,
+            w,
+            x,
+            y,
+            value(m, p.other, r, Size::Byte),
+            m.flags(),
+        ),
+        Arithmetic::BitString(o) => bit_tested(o, w, x, y, m.flags()),
     };
-    settled(c, regs, p, a)
+    settle(m, p, a, c, memory)
 }

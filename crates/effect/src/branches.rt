@@ -1,93 +1,61 @@
-// Jumps and loops: what each reads and does.
-ghost use Rattle.std.specs.Prelude.{◌≡◌, not, ◌&&◌, List, ℕ, if◌then◌else◌, ◌==◌};
-ghost use Rattle.std.proofs.Math.IntN.{sub_ℕ};
-ghost use Rattle.width.specs.Numbers.{rest};
-ghost use Rattle.effect.specs.Words as W;
-ghost use Rattle.effect.specs.Changes.{held, applied, Changing};
+//! Jumps and loops.
+ghost use Rattle.std.specs.Prelude.{◌≡◌, not, ◌&&◌, ◌==◌, if◌then◌else◌};
+ghost use Rattle.machine.specs.Registers.{with_eip};
 ghost use Rattle.effect.specs.Branches as B;
+ghost use Rattle.effect.specs.Words as W;
+ghost use Rattle.effect.specs.Does.{Performs};
 
-use crate::outcome::{Changes, Reads};
-use crate::words;
-use machine::registers::register;
+use crate::stop::Stop;
+use crate::words::{fetch, value};
+use machine::memory::Memory;
+use machine::registers::{ECX, Machine};
 use plan::Plan;
 use sense::Branch;
-use width::Size;
 
-// ECX.
-pub const ECX: u32 = 1;
-
-// A count less 1.
-pub fn less_one(n: u32) -> u32
-    ensures { result ≡ rest Size.Dword (sub_ℕ n 1) }
+/// ECX less 1.
+#[inline(always)]
+#[tactic(auto, unfolding(crate::specs::Branches::counted, width::specs::Numbers::rest, width::specs::Numbers::residue, width::specs::Sizes::modulus, width::specs::Sizes::bits))]
+pub fn counted(m: &Machine) -> u32
+    ensures { result ≡ B.counted m.now }
 {
-    width::low(Size::Dword, n as u64 + 0x2_0000_0000 - 1)
+    m.register(ECX).wrapping_sub(1)
 }
 
-// The target if the test holds, else the next instruction.
-fn branched(taken: bool, p: Plan) -> u32
-    ensures { result ≡ (if taken then p.target else p.next) }
+/// To the target if the test holds, else on.
+#[inline(always)]
+#[tactic(auto, unfolding(crate::specs::Branches::branched))]
+fn branch_if(m: &mut Machine, taken: bool, p: &Plan)
+    ensures { m.new ≡ B.branched taken m.old p.now }
 {
-    if taken { p.target } else { p.next }
+    m.set_eip(if taken { p.target } else { p.next });
 }
 
-// A loop goes on if its count isn't 0 and the condition holds.
-fn continues(left: u32, holds: bool) -> bool
-    ensures { result ≡ (not (left == 0) && holds) }
+/// 003 "LOOP/LOOPcc": ECX ← ECX - 1; to the target if ECX isn't 0 and the condition holds.
+#[tactic(auto, unfolding(crate::specs::Branches::looped))]
+fn looped(m: &mut Machine, holds: bool, p: &Plan)
+    ensures { B.looped holds m.old p.now ≡ W.becomes m.new }
 {
-    if left == 0 { false } else { holds }
+    let left = counted(m);
+    m.set_register(ECX, left);
+    branch_if(m, left != 0 && holds, p);
 }
 
-// EIP changes, and nothing else.
-fn jumps(next: u32, word: u32) -> Changes
-    ensures { (regs : List ℕ) → applied result regs ≡ W.becomes (held regs next word) }
-{
-    words::becomes(next, word, words::none(), words::none())
-}
-
-// ECX less 1; to the target if ECX isn't 0 and the condition holds.
-fn looped(holds: bool, regs: &[u32; 8], word: u32, p: Plan) -> Changes
-    ensures { Changing regs.now word (λ m. B.looped holds m p) result }
-{
-    let left = less_one(register(regs, ECX));
-    let next = branched(continues(left, holds), p);
-    words::becomes(next, word, words::whole(ECX, left), words::none())
-}
-
-// JMP through memory reads its target.
-pub fn branch_reads(op: Branch, p: Plan, a: u32) -> Reads
-    ensures { result ≡ B.branch_reads op p a }
+/// What the operation does; a is the effective address.
+#[tactic(auto, unfolding(crate::specs::Does::did, crate::specs::Does::done, crate::specs::Does::got_of, crate::specs::Branches::branch_reads, crate::specs::Branches::branch_effect, crate::specs::Words::becomes, crate::specs::Performing::committed))]
+pub fn branch(m: &mut Machine, op: Branch, p: &Plan, a: u32, memory: &Memory) -> Result<(), Stop>
+    ensures { Performs (B.branch_reads op p.now a) (λ r s. B.branch_effect op m.old p.now r) m.old memory.now result m.new memory.now }
 {
     match op {
-        Branch::Jump => Reads::Nothing,
+        Branch::Jump => m.set_eip(p.target),
         Branch::JumpTo => {
-            let o = p.source;
-            let w = p.size;
-            words::read_of(o, a, w)
+            let r = fetch(p.source, p.size, a, memory).map_err(Stop::Read)?;
+            m.set_eip(value(m, p.source, r, p.size));
         }
-        Branch::JumpIf(_) => Reads::Nothing,
-        Branch::Loopne => Reads::Nothing,
-        Branch::Loope => Reads::Nothing,
-        Branch::Loop => Reads::Nothing,
-        Branch::Jecxz => Reads::Nothing,
+        Branch::JumpIf(n) => branch_if(m, flags::meets(n, m.flags().unpack()), p),
+        Branch::Loopne => looped(m, !m.flags().unpack().zf, p),
+        Branch::Loope => looped(m, m.flags().unpack().zf, p),
+        Branch::Loop => looped(m, true, p),
+        Branch::Jecxz => branch_if(m, m.register(ECX) == 0, p),
     }
-}
-
-// What the operation does.
-pub fn branch_effect(op: Branch, regs: &[u32; 8], word: u32, p: Plan, r: u32) -> Changes
-    ensures { Changing regs.now word (λ m. B.branch_effect op m p r) result }
-{
-    let f = flags::unpack(word);
-    match op {
-        Branch::Jump => jumps(p.target, word),
-        Branch::JumpTo => {
-            let o = p.source;
-            let w = p.size;
-            jumps(words::value(o, regs, r, w), word)
-        }
-        Branch::JumpIf(n) => jumps(branched(flags::meets(n, f), p), word),
-        Branch::Loopne => looped(!f.zf, regs, word, p),
-        Branch::Loope => looped(f.zf, regs, word, p),
-        Branch::Loop => looped(true, regs, word, p),
-        Branch::Jecxz => jumps(branched(register(regs, ECX) == 0, p), word),
-    }
+    Ok(())
 }

@@ -1,13 +1,15 @@
-// What each operation reads, and then does: pure, on values.
+//! What each instruction does, in place.
 #![tactic(auto)]
 
-pub mod all;
+mod all;
 mod arithmetic;
-mod bitwise;
 mod branches;
 mod moves;
-pub mod outcome;
-mod rounds;
 mod singles;
 mod stacks;
+mod stop;
+mod strings;
 mod words;
+
+pub use all::execute;
+pub use stop::Stop;

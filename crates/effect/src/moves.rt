@@ -1,196 +1,155 @@
-// Operations that move a value or set flags: what each reads and does.
-ghost use Rattle.std.specs.Prelude.{◌≡◌, List, ℕ};
-ghost use Rattle.width.specs.Numbers.{bit};
-ghost use Rattle.flags.specs.Conditions.{meets};
-ghost use Rattle.flags.specs.Word.{flags_of};
-ghost use Rattle.machine.specs.Registers.{with_part};
-ghost use Rattle.machine.specs.Lending.{holding};
-ghost use Rattle.effect.specs.Words as W;
-ghost use Rattle.effect.specs.Changes.{held, applied, Changing};
+//! Operations that move a value or set flags.
+ghost use Rattle.std.specs.Prelude.{◌≡◌};
 ghost use Rattle.effect.specs.Moves as M;
+ghost use Rattle.effect.specs.Words as W;
+ghost use Rattle.machine.specs.Registers.{with_eip};
+ghost use Rattle.machine.specs.Answers.{SameAreas};
+ghost use Rattle.effect.specs.Does.{Performs, Commits};
 
-use crate::outcome::{Changes, Reads};
-use crate::words;
-use flags::Flags;
-use machine::registers::{part, part_change};
+use crate::stop::Stop;
+use crate::words::{assign, fetch, value, write};
+use flags::{Flags, Word};
+use machine::memory::Memory;
+use machine::registers::{AH, EAX, EDX, Machine};
 use plan::Plan;
 use sense::{Flagging, Move};
 use width::Size;
 
-// The source is read, by MOVZX and MOVSX at its own size, by CMOVcc whether its condition is met or not; of XCHG the destination.
-pub fn move_reads(op: Move, p: Plan, a: u32) -> Reads
-    ensures { result ≡ M.move_reads op p a }
+/// 003 "CMC", "CLC", "STC", "CLD", "STD".
+#[inline(always)]
+#[tactic(auto, unfolding(crate::specs::Moves::flagged, crate::specs::Moves::with_cf, crate::specs::Moves::with_df))]
+fn flagged(op: Flagging, mut f: Flags) -> Flags
+    ensures { result ≡ M.flagged op f }
 {
-    let w = p.size;
-    let d = p.destination;
-    let s = p.source;
     match op {
-        Move::Mov => words::read_of(s, a, w),
-        Move::MovZero(from) => words::read_of(s, a, from),
-        Move::MovSign(from) => words::read_of(s, a, from),
-        Move::Lea => Reads::Nothing,
-        Move::Xchg => words::read_of(d, a, w),
-        Move::Convert => Reads::Nothing,
-        Move::Spread => Reads::Nothing,
-        Move::Bswap => Reads::Nothing,
-        Move::Set(_) => Reads::Nothing,
-        Move::Lahf => Reads::Nothing,
-        Move::Sahf => Reads::Nothing,
-        Move::MovIf(_) => words::read_of(s, a, w),
+        Flagging::Cmc => f.cf = !f.cf,
+        Flagging::Clc => f.cf = false,
+        Flagging::Stc => f.cf = true,
+        Flagging::Cld => f.df = false,
+        Flagging::Std => f.df = true,
     }
+    f
 }
 
-// XCHG: DEST ← y and SRC ← x, where y is SRC and x is DEST.
-fn swapped(regs: &[u32; 8], word: u32, p: Plan, a: u32, r: u32) -> Changes
-    ensures { Changing regs.now word (λ m. M.move_effect Move.Xchg m p a r) result }
+/// What the operation does.
+#[tactic(auto, unfolding(crate::specs::Moves::flagging_effect, crate::specs::Words::onward, machine::specs::Registers::with_eip, machine::specs::Registers::with_flags))]
+pub fn flagging(m: &mut Machine, op: Flagging, p: &Plan)
+    ensures { M.flagging_effect op m.old p.now ≡ W.becomes m.new }
 {
-    let d = p.destination;
-    let s = p.source;
-    let w = p.size;
-    let x = words::value(d, regs, r, w);
-    let y = words::value(s, regs, r, w);
-    let given = words::assigned(s, regs, w, x);
-    words::assign(given, d, a, regs, p.next, word, w, y)
+    let f = flagged(op, m.flags().unpack());
+    m.set_flags(Word::pack(f));
+    m.set_eip(p.next);
 }
 
-// Half a size.
+/// Half a size.
+#[inline(always)]
+#[tactic(auto, unfolding(crate::specs::Moves::smaller))]
 fn smaller(w: Size) -> Size
     ensures { result ≡ M.smaller w }
 {
     match w {
-        Size::Byte => Size::Byte,
-        Size::Word => Size::Byte,
+        Size::Byte | Size::Word => Size::Byte,
         Size::Dword => Size::Word,
     }
 }
 
-// A part of a register changes.
-fn loads(regs: &[u32; 8], next: u32, word: u32, w: Size, i: u32, v: u32) -> Changes
-    ensures { W.becomes (with_part (held regs.now next word) w i v) ≡ applied result regs.now }
+/// v assigned to the destination, and on.
+#[inline(always)]
+#[tactic(auto, using(crate::proofs::Assign::done_assign), unfolding(crate::specs::Words::onward))]
+fn given(m: &mut Machine, p: &Plan, a: u32, v: u32, memory: &mut Memory) -> Result<(), Stop>
+    ensures does { Commits (W.assign p.now.destination a (W.onward m.old p.now) p.now.size v) m.old memory.old result m.new memory.new }
+    ensures same_areas { SameAreas memory.old memory.new }
 {
-    let none = words::none();
-    words::becomes(next, word, none, part_change(none, regs, w, i, v))
+    write(p.destination, p.size, a, v, memory).map_err(Stop::Write)?;
+    m.set_eip(p.next);
+    assign(m, p.destination, p.size, v);
+    Ok(())
 }
 
-// CBW and CWDE: AX ← AL, or EAX ← AX, extended by sign.
-fn converted(regs: &[u32; 8], word: u32, p: Plan) -> Changes
-    ensures { (a r : ℕ) → Changing regs.now word (λ m. M.move_effect Move.Convert m p a r) result }
+/// CMOVcc: SRC if the condition with the number n is met, else what DEST was.
+#[inline(always)]
+#[tactic(auto, unfolding(crate::specs::Moves::chosen))]
+fn chosen(m: &Machine, n: u32, p: &Plan, r: u32) -> u32
+    ensures { result ≡ M.chosen n m.now p.now r }
 {
-    let w = p.size;
-    let from = smaller(w);
-    let v = width::sign_extended(from, w, part(regs, from, 0));
-    loads(regs, p.next, word, w, 0, v)
-}
-
-// CWD and CDQ: each bit of DX, or EDX, ← the sign of AX, or EAX.
-fn spread(regs: &[u32; 8], word: u32, p: Plan) -> Changes
-    ensures { (a r : ℕ) → Changing regs.now word (λ m. M.move_effect Move.Spread m p a r) result }
-{
-    let w = p.size;
-    let v = width::sign_filled(w, part(regs, w, 0));
-    loads(regs, p.next, word, w, 2, v)
-}
-
-// LAHF: AH ← the flags.
-fn ah_loaded(regs: &[u32; 8], word: u32, p: Plan) -> Changes
-    ensures { (a r : ℕ) → Changing regs.now word (λ m. M.move_effect Move.Lahf m p a r) result }
-{
-    let v = flags::ah(flags::unpack(word));
-    loads(regs, p.next, word, Size::Byte, 4, v)
-}
-
-// The flags change, and no register.
-fn flags_become(next: u32, f: Flags) -> Changes
-    ensures { (regs : List ℕ) → applied result regs ≡ W.becomes (holding regs next f) }
-{
-    words::becomes(next, flags::pack(f), words::none(), words::none())
-}
-
-// SAHF: the flags ← AH.
-fn ah_stored(regs: &[u32; 8], word: u32, p: Plan) -> Changes
-    ensures { (a r : ℕ) → Changing regs.now word (λ m. M.move_effect Move.Sahf m p a r) result }
-{
-    let f = flags::with_ah(part(regs, Size::Byte, 4), flags::unpack(word));
-    flags_become(p.next, f)
-}
-
-// SETcc: 1 if the condition is met, else 0.
-fn condition_bit(n: u32, word: u32) -> u32
-    ensures { result ≡ bit (meets n (flags_of word)) }
-{
-    width::bit(flags::meets(n, flags::unpack(word))) as u32
-}
-
-// CMOVcc: SRC if the condition is met, else what DEST was.
-fn chosen(regs: &[u32; 8], word: u32, p: Plan, r: u32, n: u32) -> u32
-    ensures { (eip : ℕ) → M.chosen n (held regs.now eip word) p r ≡ result }
-{
-    let w = p.size;
-    if flags::meets(n, flags::unpack(word)) {
-        let s = p.source;
-        return words::value(s, regs, r, w);
+    if flags::meets(n, m.flags().unpack()) {
+        value(m, p.source, r, p.size)
+    } else {
+        value(m, p.destination, r, p.size)
     }
-    let d = p.destination;
-    words::value(d, regs, r, w)
 }
 
-// What the operation does.
-pub fn move_effect(op: Move, regs: &[u32; 8], word: u32, p: Plan, a: u32, r: u32) -> Changes
-    ensures { Changing regs.now word (λ m. M.move_effect op m p a r) result }
+/// What the operation does; a is the effective address.
+#[tactic(auto, using(crate::proofs::Assign::done_assign, crate::proofs::Assign::done_becomes), unfolding(crate::specs::Does::did, crate::specs::Does::got_of, crate::specs::Moves::move_reads, crate::specs::Moves::move_effect, crate::specs::Moves::exchanged, crate::specs::Words::onward, width::specs::Numbers::bit))]
+pub fn moves(m: &mut Machine, op: Move, p: &Plan, a: u32, memory: &mut Memory) -> Result<(), Stop>
+    ensures does { Performs (M.move_reads op p.now a) (λ r s. M.move_effect op m.old p.now a r) m.old memory.old result m.new memory.new }
+    ensures same_areas { SameAreas memory.old memory.new }
 {
     let w = p.size;
-    let d = p.destination;
-    let s = p.source;
-    let v = match op {
-        Move::Mov => words::value(s, regs, r, w),
-        Move::MovZero(from) => words::value(s, regs, r, from),
-        Move::MovSign(from) => width::sign_extended(from, w, words::value(s, regs, r, from)),
-        Move::Lea => a,
-        Move::Xchg => return swapped(regs, word, p, a, r),
-        Move::Convert => return converted(regs, word, p),
-        Move::Spread => return spread(regs, word, p),
-        Move::Bswap => width::reversed(words::value(d, regs, r, w)),
-        Move::Set(n) => condition_bit(n, word),
-        Move::Lahf => return ah_loaded(regs, word, p),
-        Move::Sahf => return ah_stored(regs, word, p),
-        Move::MovIf(n) => chosen(regs, word, p, r, n),
-    };
-    words::assign(words::none(), d, a, regs, p.next, word, w, v)
-}
-
-// The flags with another CF.
-fn with_cf(mut f: Flags, c: bool) -> Flags
-    ensures { result ≡ M.with_cf f c }
-{
-    f.cf = c;
-    f
-}
-
-// The flags with another DF.
-fn with_df(mut f: Flags, d: bool) -> Flags
-    ensures { result ≡ M.with_df f d }
-{
-    f.df = d;
-    f
-}
-
-// CMC, CLC, STC, CLD and STD.
-fn flagged(op: Flagging, f: Flags) -> Flags
-    ensures { result ≡ M.flagged op f }
-{
     match op {
-        Flagging::Cmc => with_cf(f, !f.cf),
-        Flagging::Clc => with_cf(f, false),
-        Flagging::Stc => with_cf(f, true),
-        Flagging::Cld => with_df(f, false),
-        Flagging::Std => with_df(f, true),
+        Move::Mov => {
+            let r = fetch(p.source, w, a, memory).map_err(Stop::Read)?;
+            given(m, p, a, value(m, p.source, r, w), memory)
+        }
+        Move::MovZero(from) => {
+            let r = fetch(p.source, from, a, memory).map_err(Stop::Read)?;
+            given(m, p, a, value(m, p.source, r, from), memory)
+        }
+        Move::MovSign(from) => {
+            let r = fetch(p.source, from, a, memory).map_err(Stop::Read)?;
+            let v = from.sign_extended(w, value(m, p.source, r, from));
+            given(m, p, a, v, memory)
+        }
+        Move::Lea => given(m, p, a, a, memory),
+        Move::Xchg => {
+            let r = fetch(p.destination, w, a, memory).map_err(Stop::Read)?;
+            let x = value(m, p.destination, r, w);
+            let y = value(m, p.source, r, w);
+            write(p.destination, w, a, y, memory).map_err(Stop::Write)?;
+            m.set_eip(p.next);
+            assign(m, p.source, w, x);
+            assign(m, p.destination, w, y);
+            Ok(())
+        }
+        Move::Convert => {
+            let from = smaller(w);
+            let v = from.sign_extended(w, m.part(from, EAX));
+            m.set_eip(p.next);
+            m.set_part(w, EAX, v);
+            Ok(())
+        }
+        Move::Spread => {
+            let v = w.sign_filled(m.part(w, EAX));
+            m.set_eip(p.next);
+            m.set_part(w, EDX, v);
+            Ok(())
+        }
+        Move::Bswap => given(
+            m,
+            p,
+            a,
+            width::reversed(value(m, p.destination, 0, w)),
+            memory,
+        ),
+        Move::Set(n) => {
+            let v = u32::from(flags::meets(n, m.flags().unpack()));
+            given(m, p, a, v, memory)
+        }
+        Move::Lahf => {
+            let v = flags::ah(m.flags().unpack());
+            m.set_eip(p.next);
+            m.set_part(Size::Byte, AH, v);
+            Ok(())
+        }
+        Move::Sahf => {
+            let f = flags::with_ah(m.part(Size::Byte, AH), m.flags().unpack());
+            m.set_eip(p.next);
+            m.set_flags(Word::pack(f));
+            Ok(())
+        }
+        Move::MovIf(n) => {
+            let s = fetch(p.source, w, a, memory).map_err(Stop::Read)?;
+            given(m, p, a, chosen(m, n, p, s), memory)
+        }
     }
-}
-
-// What the operation does.
-pub fn flagging_effect(op: Flagging, word: u32, p: Plan) -> Changes
-    ensures { (regs : List ℕ) → Changing regs word (λ m. M.flagging_effect op m p) result }
-{
-    let f = flags::unpack(word);
-    flags_become(p.next, flagged(op, f))
 }

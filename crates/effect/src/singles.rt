@@ -1,72 +1,91 @@
-// Operations on singles: what each changes, where r is what was read.
-ghost use Rattle.std.specs.Prelude.{◌≡◌, List, ℕ};
+//! Operations on singles.
+ghost use Rattle.std.specs.Prelude.{◌≡◌};
 ghost use Rattle.effect.specs.Singles as S;
-ghost use Rattle.effect.specs.Changes.{lent, held, applied, Beside};
+ghost use Rattle.effect.specs.Words as W;
+ghost use Rattle.machine.specs.Answers.{SameAreas};
+ghost use Rattle.effect.specs.Does.{Performs, Commits};
 
-use crate::outcome::{Changes, Reads};
-use crate::words::{becomes, none, read_of, sets, writes};
-use machine::registers;
+use crate::stop::Stop;
+use crate::words::{fetch, write};
+use flags::Word;
+use machine::memory::Memory;
+use machine::registers::Machine;
 use plan::{Operand, Plan};
 use scalar::Compute;
 use width::Size;
 
-// An operand's single: that of an XMM register, or what was read.
-fn value(o: Operand, xmm: &[u32; 8], r: u32) -> u32
-    ensures { (regs : List ℕ) (eip word : ℕ) → S.single_value o (lent regs xmm.now eip word) r ≡ result }
+/// An operand's single, where r is what was read.
+// Apart from `words`: a single is a whole register of another kind, and has no size.
+#[inline(always)]
+#[tactic(auto, unfolding(crate::specs::Singles::single_value))]
+fn value(m: &Machine, o: Operand, r: u32) -> u32
+    ensures { result ≡ S.single_value o m.now r }
 {
     match o {
-        Operand::Register(i) => registers::single(xmm, i),
+        Operand::Register(i) => m.single(i),
         Operand::Memory => r,
         Operand::Number(n) => n,
     }
 }
 
-// v assigned to an XMM register, or written at a.
-fn assign(o: Operand, a: u32, next: u32, word: u32, v: u32) -> Changes
-    ensures { (regs : List ℕ) → S.assign_single o a (held regs next word) v ≡ applied result regs }
+/// v assigned to the destination, and on.
+#[tactic(auto, unfolding(crate::specs::Does::done, crate::specs::Does::wrote, crate::specs::Does::written, crate::specs::Singles::assign_single, crate::specs::Words::onward, crate::specs::Words::writes, crate::specs::Words::sets, crate::specs::Words::becomes, crate::specs::Performing::committed, crate::specs::Performing::stored))]
+fn given(m: &mut Machine, p: &Plan, a: u32, v: u32, memory: &mut Memory) -> Result<(), Stop>
+    ensures does { Commits (S.assign_single p.now.destination a (W.onward m.old p.now) v) m.old memory.old result m.new memory.new }
+    ensures same_areas { SameAreas memory.old memory.new }
 {
-    match o {
-        Operand::Register(i) => sets(next, word, i, v),
-        Operand::Memory => writes(next, word, none(), none(), Size::Dword, a, v),
-        Operand::Number(_) => becomes(next, word, none(), none()),
+    match p.destination {
+        Operand::Register(i) => {
+            m.set_eip(p.next);
+            m.set_single(i, v);
+        }
+        Operand::Memory => {
+            memory.store(Size::Dword, a, v).map_err(Stop::Write)?;
+            m.set_eip(p.next);
+        }
+        Operand::Number(_) => m.set_eip(p.next),
     }
+    Ok(())
 }
 
-// The source is read, where it lies in memory.
-pub fn single_reads(p: Plan, a: u32) -> Reads
-    ensures { result ≡ S.single_reads p a }
+/// MOVSS.
+#[tactic(auto, unfolding(crate::specs::Does::did, crate::specs::Singles::single_reads, crate::specs::Singles::single_moved))]
+pub fn move_single(m: &mut Machine, p: &Plan, a: u32, memory: &mut Memory) -> Result<(), Stop>
+    ensures does { Performs (S.single_reads p.now a) (λ r s. S.single_moved m.old p.now a r) m.old memory.old result m.new memory.new }
+    ensures same_areas { SameAreas memory.old memory.new }
 {
-    let source = p.source;
-    read_of(source, a, Size::Dword)
+    let r = fetch(p.source, Size::Dword, a, memory).map_err(Stop::Read)?;
+    given(m, p, a, value(m, p.source, r), memory)
 }
 
-// MOVSS.
-pub fn single_moved(xmm: &[u32; 8], word: u32, p: Plan, a: u32, r: u32) -> Changes
-    ensures { Beside xmm.now word (λ m. S.single_moved m p a r) result }
+/// ADDSS MULSS SUBSS MINSS DIVSS MAXSS.
+#[tactic(auto, unfolding(crate::specs::Does::did, crate::specs::Singles::single_reads, crate::specs::Singles::single_computed))]
+pub fn compute_single(
+    m: &mut Machine,
+    op: Compute,
+    p: &Plan,
+    a: u32,
+    memory: &mut Memory,
+) -> Result<(), Stop>
+    ensures does { Performs (S.single_reads p.now a) (λ r s. S.single_computed op m.old p.now a r) m.old memory.old result m.new memory.new }
+    ensures same_areas { SameAreas memory.old memory.new }
 {
-    let destination = p.destination;
-    let source = p.source;
-    assign(destination, a, p.next, word, value(source, xmm, r))
+    let r = fetch(p.source, Size::Dword, a, memory).map_err(Stop::Read)?;
+    let x = value(m, p.destination, r);
+    let y = value(m, p.source, r);
+    given(m, p, a, scalar::computed(op, x, y), memory)
 }
 
-// ADDSS MULSS SUBSS MINSS DIVSS MAXSS.
-pub fn single_computed(op: Compute, xmm: &[u32; 8], word: u32, p: Plan, a: u32, r: u32) -> Changes
-    ensures { Beside xmm.now word (λ m. S.single_computed op m p a r) result }
+/// COMISS.
+#[tactic(auto, using(crate::proofs::Assign::done_becomes), unfolding(crate::specs::Does::did, crate::specs::Singles::single_reads, crate::specs::Singles::single_compared, crate::specs::Words::onward))]
+pub fn compare_single(m: &mut Machine, p: &Plan, a: u32, memory: &Memory) -> Result<(), Stop>
+    ensures { Performs (S.single_reads p.now a) (λ r s. S.single_compared m.old p.now r) m.old memory.now result m.new memory.now }
 {
-    let destination = p.destination;
-    let source = p.source;
-    let x = value(destination, xmm, r);
-    let y = value(source, xmm, r);
-    assign(destination, a, p.next, word, scalar::computed(op, x, y))
-}
-
-// COMISS.
-pub fn single_compared(xmm: &[u32; 8], word: u32, p: Plan, r: u32) -> Changes
-    ensures { Beside xmm.now word (λ m. S.single_compared m p r) result }
-{
-    let destination = p.destination;
-    let source = p.source;
-    let x = value(destination, xmm, r);
-    let y = value(source, xmm, r);
-    becomes(p.next, scalar::compared(x, y, word), none(), none())
+    let r = fetch(p.source, Size::Dword, a, memory).map_err(Stop::Read)?;
+    let x = value(m, p.destination, r);
+    let y = value(m, p.source, r);
+    let f = Word::of_bits(scalar::compared(x, y, m.flags().bits()));
+    m.set_eip(p.next);
+    m.set_flags(f);
+    Ok(())
 }

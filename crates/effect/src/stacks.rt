@@ -1,127 +1,108 @@
-// Operations on the stack: what each reads and does.
-ghost use Rattle.std.specs.Prelude.{◌≡◌, ℕ, ◌+◌, pos};
-ghost use Rattle.std.proofs.Math.IntN.{sub_ℕ};
+//! Operations on the stack.
+ghost use Rattle.std.specs.Prelude.{◌≡◌, ◌+◌, pos};
 ghost use Rattle.width.specs.Numbers.{rest};
-ghost use Rattle.machine.specs.Lending.{Gives};
-ghost use Rattle.effect.specs.Changes.{held, applied, Changing};
+ghost use Rattle.machine.specs.Registers.{with_eip};
 ghost use Rattle.effect.specs.Stacks as S;
+ghost use Rattle.effect.specs.Words as W;
+ghost use Rattle.machine.specs.Answers.{SameAreas};
+ghost use Rattle.effect.specs.Does.{Performs, Commits};
 
-use crate::outcome::{Changes, Reads};
-use crate::words;
-use machine::registers::register;
+use crate::stop::Stop;
+use crate::words::{assign, fetch, value, write};
+use machine::memory::Memory;
+use machine::registers::{EBP, ESP, Machine};
 use plan::Plan;
 use sense::Stack;
 use width::Size;
 
-// The number of ESP.
-const ESP: u32 = 4;
-
-// The number of EBP.
-const EBP: u32 = 5;
-
-// The address n bytes above another.
-fn above(a: u32, n: u32) -> u32
-    ensures { result ≡ rest Size.Dword (pos (a + n)) }
+/// The address n bytes above the one in a register.
+#[inline(always)]
+#[tactic(auto, unfolding(crate::specs::Stacks::above, width::specs::Numbers::rest, width::specs::Numbers::residue, width::specs::Sizes::modulus, width::specs::Sizes::bits))]
+fn above(m: &Machine, i: u32, n: u32) -> u32
+    ensures { result ≡ S.above m.now i n }
 {
-    width::low(Size::Dword, a as u64 + n as u64)
+    m.register(i).wrapping_add(n)
 }
 
-// The address 4 + n bytes above another.
-fn released(a: u32, n: u32) -> u32
-    ensures { result ≡ rest Size.Dword (pos (a + (4 + n))) }
+/// The address 4 + n bytes above ESP.
+#[inline(always)]
+#[tactic(auto, unfolding(crate::specs::Stacks::above, width::specs::Numbers::rest, width::specs::Numbers::residue, width::specs::Sizes::modulus, width::specs::Sizes::bits))]
+fn released(m: &Machine, n: u32) -> u32
+    ensures { result ≡ S.above m.now S.esp (4 + n) }
 {
-    width::low(Size::Dword, a as u64 + (4 + n as u64))
+    m.register(ESP).wrapping_add(4).wrapping_add(n)
 }
 
-// The address 4 bytes below another.
-fn below(a: u32) -> u32
-    ensures { result ≡ rest Size.Dword (sub_ℕ a 4) }
+/// The address 4 bytes below ESP.
+#[inline(always)]
+#[tactic(auto, unfolding(crate::specs::Stacks::below, width::specs::Numbers::rest, width::specs::Numbers::residue, width::specs::Sizes::modulus, width::specs::Sizes::bits))]
+fn below(m: &Machine) -> u32
+    ensures { result ≡ S.below m.now }
 {
-    width::low(Size::Dword, a as u64 + 0x2_0000_0000 - 4)
+    m.register(ESP).wrapping_sub(4)
 }
 
-// PUSH: ESP ← ESP - 4; the doubleword at ESP ← v.
-fn pushed(regs: &[u32; 8], next: u32, word: u32, v: u32) -> Changes
-    ensures { S.pushed (held regs.now next word) v ≡ applied result regs.now }
+/// 003 "PUSH": ESP ← ESP - 4; the doubleword at ESP ← v.
+#[inline(always)]
+#[tactic(auto, unfolding(crate::specs::Does::done, crate::specs::Stacks::pushed, crate::specs::Stacks::below, machine::specs::Registers::register, machine::specs::Registers::with_register, machine::specs::Registers::with_eip, crate::specs::Words::writes, crate::specs::Performing::committed, crate::specs::Performing::stored))]
+fn push(m: &mut Machine, v: u32, next: u32, memory: &mut Memory) -> Result<(), Stop>
+    ensures does { Commits (S.pushed (with_eip m.old next) v) m.old memory.old result m.new memory.new }
+    ensures same_areas { SameAreas memory.old memory.new }
 {
-    let a = below(register(regs, ESP));
-    words::writes(
-        next,
-        word,
-        words::whole(ESP, a),
-        words::none(),
-        Size::Dword,
-        a,
-        v,
-    )
+    let top = below(m);
+    memory.store(Size::Dword, top, v).map_err(Stop::Write)?;
+    m.set_eip(next);
+    m.set_register(ESP, top);
+    Ok(())
 }
 
-// What the operation reads: a pop its doubleword, LEAVE the one at EBP.
-pub fn stack_reads(op: Stack, regs: &[u32; 8], p: Plan, a: u32) -> Reads
-    ensures { Gives regs.now (λ m. S.stack_reads op m p a) result }
+/// What the operation does; a is the effective address.
+#[tactic(auto, using(crate::proofs::Assign::done_assign, crate::proofs::Assign::done_becomes), unfolding(crate::specs::Does::did, crate::specs::Does::got_of, crate::specs::Stacks::stack_reads, crate::specs::Stacks::stack_effect, crate::specs::Words::onward))]
+pub fn stack(m: &mut Machine, op: Stack, p: &Plan, a: u32, memory: &mut Memory) -> Result<(), Stop>
+    ensures does { Performs (S.stack_reads op m.old p.now a) (λ r s. S.stack_effect op m.old p.now a r) m.old memory.old result m.new memory.new }
+    ensures same_areas { SameAreas memory.old memory.new }
 {
-    let s = p.source;
     let w = p.size;
     match op {
-        Stack::Push => words::read_of(s, a, w),
-        Stack::Pop => Reads::One {
-            size: Size::Dword,
-            address: register(regs, ESP),
-        },
-        Stack::Leave => Reads::One {
-            size: Size::Dword,
-            address: register(regs, EBP),
-        },
-        Stack::Call => Reads::Nothing,
-        Stack::CallTo => words::read_of(s, a, w),
-        Stack::Return => Reads::One {
-            size: Size::Dword,
-            address: register(regs, ESP),
-        },
-    }
-}
-
-// POP: ESP ← ESP + 4, then DEST ← the doubleword read.
-fn popped(regs: &[u32; 8], word: u32, p: Plan, a: u32, r: u32) -> Changes
-    ensures { Changing regs.now word (λ m. S.stack_effect Stack.Pop m p a r) result }
-{
-    let d = p.destination;
-    let w = p.size;
-    let top = words::whole(ESP, above(register(regs, ESP), 4));
-    words::assign(top, d, a, regs, p.next, word, w, r)
-}
-
-// LEAVE: ESP ← EBP; EBP ← Pop().
-fn left(regs: &[u32; 8], word: u32, p: Plan, r: u32) -> Changes
-    ensures { (a : ℕ) → Changing regs.now word (λ m. S.stack_effect Stack.Leave m p a r) result }
-{
-    let top = words::whole(ESP, above(register(regs, EBP), 4));
-    words::becomes(p.next, word, top, words::whole(EBP, r))
-}
-
-// RET: EIP ← Pop(); ESP ← ESP + SRC.
-fn returned(regs: &[u32; 8], word: u32, p: Plan, r: u32) -> Changes
-    ensures { (a : ℕ) → Changing regs.now word (λ m. S.stack_effect Stack.Return m p a r) result }
-{
-    let s = p.source;
-    let w = p.size;
-    let n = words::value(s, regs, r, w);
-    let top = words::whole(ESP, released(register(regs, ESP), n));
-    words::becomes(r, word, top, words::none())
-}
-
-// What the operation does.
-pub fn stack_effect(op: Stack, regs: &[u32; 8], word: u32, p: Plan, a: u32, r: u32) -> Changes
-    ensures { Changing regs.now word (λ m. S.stack_effect op m p a r) result }
-{
-    let s = p.source;
-    let w = p.size;
-    match op {
-        Stack::Push => pushed(regs, p.next, word, words::value(s, regs, r, w)),
-        Stack::Pop => popped(regs, word, p, a, r),
-        Stack::Leave => left(regs, word, p, r),
-        Stack::Call => pushed(regs, p.target, word, p.next),
-        Stack::CallTo => pushed(regs, words::value(s, regs, r, w), word, p.next),
-        Stack::Return => returned(regs, word, p, r),
+        Stack::Push => {
+            let r = fetch(p.source, w, a, memory).map_err(Stop::Read)?;
+            push(m, value(m, p.source, r, w), p.next, memory)
+        }
+        Stack::Pop => {
+            let r = memory
+                .load(Size::Dword, m.register(ESP))
+                .map_err(Stop::Read)?;
+            write(p.destination, w, a, r, memory).map_err(Stop::Write)?;
+            let top = above(m, ESP, 4);
+            m.set_eip(p.next);
+            m.set_register(ESP, top);
+            assign(m, p.destination, w, r);
+            Ok(())
+        }
+        Stack::Leave => {
+            let r = memory
+                .load(Size::Dword, m.register(EBP))
+                .map_err(Stop::Read)?;
+            let top = above(m, EBP, 4);
+            m.set_eip(p.next);
+            m.set_register(ESP, top);
+            m.set_register(EBP, r);
+            Ok(())
+        }
+        Stack::Call => push(m, p.next, p.target, memory),
+        Stack::CallTo => {
+            let r = fetch(p.source, w, a, memory).map_err(Stop::Read)?;
+            push(m, p.next, value(m, p.source, r, w), memory)
+        }
+        Stack::Return => {
+            let r = memory
+                .load(Size::Dword, m.register(ESP))
+                .map_err(Stop::Read)?;
+            let n = value(m, p.source, r, w);
+            let top = released(m, n);
+            m.set_eip(r);
+            m.set_register(ESP, top);
+            Ok(())
+        }
     }
 }

@@ -1,15 +1,19 @@
-// The seven flags as a value, the flags word that they are packed in, the conditions on them, and the policy for an undefined flag.
+//! The seven flags as a value, the flags word that they are packed in, the conditions on them, and the policy for an undefined flag.
 #![tactic(auto)]
 
+mod word;
+
 ghost use Rattle.std.specs.Prelude.{◌≡◌, ◌*◌, ◌<◌};
-ghost use Rattle.flags.specs.Word.{Word, AhWord, flags_of, passes, from_ah};
+ghost use Rattle.flags.specs.Word as W;
+ghost use Rattle.flags.specs.Word.{AhWord, flags_of, passes, from_ah};
 ghost use Rattle.flags.specs.Conditions.{meets};
 ghost use Rattle.flags.specs.Results.{undefined_flag, all_undefined, parity, resulting};
 
-use width::Size;
+use width::{Size, bit_at};
+pub use word::Word;
 
-// The status flags and the direction flag.
-#[derive(Clone, Copy)]
+/// The status flags and the direction flag.
+#[derive(Clone, Copy, Debug, PartialEq, Eq)]
 pub struct Flags {
     pub cf: bool,
     pub pf: bool,
@@ -20,65 +24,72 @@ pub struct Flags {
     pub of: bool,
 }
 
-// The flags word of the flags.
+/// The flags word of the flags.
+// Beside `Word`, which has the same flags and says nothing of the other bits: what is handed out is this very word.
 pub fn pack(f: Flags) -> u32
-    ensures { Word f result }
+    ensures { W.Word f result }
 {
-    let low = 2
-        + width::bit(f.cf)
-        + 4 * width::bit(f.pf)
-        + 16 * width::bit(f.af)
-        + 64 * width::bit(f.zf);
-    (low + 128 * width::bit(f.sf) + 1024 * width::bit(f.df) + 2048 * width::bit(f.of)) as u32
+    2 + u32::from(f.cf)
+        + 4 * u32::from(f.pf)
+        + 16 * u32::from(f.af)
+        + 64 * u32::from(f.zf)
+        + 128 * u32::from(f.sf)
+        + 1024 * u32::from(f.df)
+        + 2048 * u32::from(f.of)
 }
 
-// The flags of a flags word.
+/// The flags of a flags word.
+#[tactic(auto, unfolding(crate::specs::Word::flags_of))]
 pub fn unpack(n: u32) -> Flags
     ensures { result ≡ flags_of n }
 {
+    let bits = u64::from(n);
     Flags {
-        cf: n % 2 == 1,
-        pf: n / 4 % 2 == 1,
-        af: n / 16 % 2 == 1,
-        zf: n / 64 % 2 == 1,
-        sf: n / 128 % 2 == 1,
-        df: n / 1024 % 2 == 1,
-        of: n / 2048 % 2 == 1,
+        cf: bit_at(0, bits),
+        pf: bit_at(2, bits),
+        af: bit_at(4, bits),
+        zf: bit_at(6, bits),
+        sf: bit_at(7, bits),
+        df: bit_at(10, bits),
+        of: bit_at(11, bits),
     }
 }
 
-// Does number 12 let the flags word pass?
+/// Does number 12 let the flags word pass?
 pub fn passes(n: u32) -> bool
     ensures { result ≡ passes n }
 {
-    n / 2 % 2 == 1 && n & 0x0CD7 == n
+    bit_at(1, u64::from(n)) && n & 0x0CD7 == n
 }
 
-// What LAHF loads into AH.
+/// What LAHF loads into AH.
 pub fn ah(f: Flags) -> u32
     ensures { AhWord f result }
 {
     pack(f) % 256
 }
 
-// The flags after SAHF with this AH.
+/// The flags after SAHF with this AH.
+#[tactic(auto, unfolding(crate::specs::Word::flags_of, crate::specs::Word::from_ah))]
 pub fn with_ah(n: u32, f: Flags) -> Flags
     ensures { result ≡ from_ah n f }
 {
-    let mut r = unpack(n);
-    r.df = f.df;
-    r.of = f.of;
-    r
+    Flags {
+        df: f.df,
+        of: f.of,
+        ..unpack(n)
+    }
 }
 
-// A flag that 003 leaves undefined, where old is what it was.
+/// A flag that 003 leaves undefined, where old is what it was.
+#[tactic(auto, unfolding(crate::specs::Results::undefined_flag))]
 pub fn undefined(old: bool) -> bool
     ensures { result ≡ undefined_flag old }
 {
     false
 }
 
-// The status flags all undefined, DF kept.
+/// The status flags all undefined, DF kept.
 pub fn all_undefined(old: Flags) -> Flags
     ensures { result ≡ all_undefined old }
 {
@@ -93,14 +104,15 @@ pub fn all_undefined(old: Flags) -> Flags
     }
 }
 
-// Is the count of ones in the low 8 bits even?
+/// Is the count of ones in the low 8 bits even?
+#[tactic(auto, unfolding(crate::specs::Results::parity))]
 pub fn parity(v: u32) -> bool
     ensures { result ≡ parity v }
 {
-    u32::count_ones(v % 256) % 2 == 0
+    (v % 256).count_ones() % 2 == 0
 }
 
-// SF, ZF and PF by the result v, CF, AF and OF as given, DF kept.
+/// SF, ZF and PF by the result v, CF, AF and OF as given, DF kept.
 pub fn resulting(w: Size, v: u32, cf: bool, af: bool, of: bool, old: Flags) -> Flags
     ensures { result ≡ resulting w v cf af of old }
 {
@@ -109,20 +121,20 @@ pub fn resulting(w: Size, v: u32, cf: bool, af: bool, of: bool, old: Flags) -> F
         pf: parity(v),
         af,
         zf: v == 0,
-        sf: width::negative(w, v),
+        sf: w.negative(v),
         df: old.df,
         of,
     }
 }
 
-// The word of a result: SF, ZF and PF by the result v, CF, AF and OF as given, DF as in the old word.
+/// The word of a result: SF, ZF and PF by the result v, CF, AF and OF as given, DF as in the old word.
 pub fn resulting_word(w: Size, v: u32, cf: bool, af: bool, of: bool, word: u32) -> u32
     ensures { flags_of result ≡ resulting w v cf af of (flags_of word) }
 {
     pack(resulting(w, v, cf, af, of, unpack(word)))
 }
 
-// Do the flags meet the condition with the number 2 * n? The one after it is its opposite.
+/// Do the flags meet the condition with the number 2 * n? The one after it is its opposite.
 fn even(n: u32, f: Flags) -> bool
     requires { n < 8 }
     ensures { result ≡ meets (2 * n) f }
@@ -139,7 +151,8 @@ fn even(n: u32, f: Flags) -> bool
     }
 }
 
-// Do the flags meet the condition with this number?
+// A condition stays a number, the last four bits of its opcode: an enum of sixteen would be made of it and then taken apart again.
+/// Do the flags meet the condition with this number?
 pub fn meets(n: u32, f: Flags) -> bool
     ensures { result ≡ meets n f }
 {

@@ -11,7 +11,9 @@ use Rattle.grammar.specs.Answers.{numbers, own_bytes, Begins, Prefix, Answers, i
 use Rattle.grammar.specs.Reading.{Read, whole, short, wrong, run}
 use Rattle.grammar.specs.Decoding.{tree, answer, found, decode_of, Decodes}
 use Rattle.grammar.specs.declared.instruction.Decoded.{Decoded}
-use Rattle.grammar.specs.declared.instruction.Found.{Found}
+use Rattle.grammar.specs.Answers.{Found}
+use Rattle.std.specs.Prelude.{Ok, Err}
+use Rattle.grammar.specs.declared.instruction.Fault.{Fault}
 use Rattle.grammar.proofs.Trees.{spelled_run, run_spelled, spelled_short, short_spelled}
 use Rattle.grammar.proofs.Exact.{spells_tree, tree_spells}
 use Rattle.grammar.proofs.Endings.{live_tree}
@@ -71,7 +73,7 @@ only bytes (instruction i) = sym (ap answer (begins_run i))
 only bytes (cut p) = sym (ap answer (prefix_run p))
 only bytes (unknown begins prefix) = go (run tree bytes) refl
   where
-    go : (o : Read Decoded) → run tree bytes ≡ o → Found.Unknown ≡ answer o
+    go : (o : Read Decoded) → run tree bytes ≡ o → (Err Fault.Unknown) ≡ answer o
     go (whole x rest) e = absurd (begins (run_begins bytes x rest e).0)
     go short e = absurd (prefix (run_prefix bytes e))
     go wrong e = refl
@@ -86,7 +88,7 @@ answers_decode code at a = answers_unique (decode_answers code at) a
 
 -- an instruction in the code is found there
 pub instruction_found : {bytes : List ℕ} (i : Instruction bytes) (code : List ℕ) (at : ℕ) (rest : List ℕ) → drop at code ≡ bytes ++ rest
-    → decode_of code at ≡ Found.Instruction (numbers i.parts)
+    → decode_of code at ≡ Ok (numbers i.parts)
 instruction_found {bytes} i code at rest e =
     answers_decode code at (instruction (record { own = bytes; instruction = i; rest = rest; joined = sym e }))
 
@@ -125,7 +127,7 @@ pub record Standing (bytes : List ℕ) (d : Decoded) : Type 0 where
   pub inside : d.length ≤ length bytes
 
 -- an answer that is an instruction has its own bytes at the front
-standing : {bytes : List ℕ} {r : Found} (d : Decoded) → Answers bytes r → r ≡ Found.Instruction d → Standing bytes d
+standing : {bytes : List ℕ} {r : Found} (d : Decoded) → Answers bytes r → r ≡ Ok d → Standing bytes d
 unfolding numbers
 standing {bytes} d (instruction i) e =
     let same : numbers i.instruction.parts ≡ d = cc in
@@ -145,7 +147,7 @@ standing d (cut p) e = absurd (let z : ◌≡◌ {A = ℕ} 0 1 = cc in omega ari
 standing d (unknown b p) e = absurd (let z : ◌≡◌ {A = ℕ} 0 1 = cc in omega arith)
 
 -- the instruction that decode finds
-pub found_standing : (code : List ℕ) (at : ℕ) (d : Decoded) → decode_of code at ≡ Found.Instruction d → Standing (drop at code) d
+pub found_standing : (code : List ℕ) (at : ℕ) (d : Decoded) → decode_of code at ≡ Ok d → Standing (drop at code) d
 found_standing code at d e = standing d (decode_answers code at) e
 
 -- its own bytes are those of the grammar's instruction
@@ -156,32 +158,32 @@ own_exactly i =
     ∙ take_at i.own i.rest (length (bytes_of i.instruction.parts)) (ap length (sym i.instruction.joined))
 
 -- they are as many as its length says
-pub own_length : (code : List ℕ) (at : ℕ) (d : Decoded) → decode_of code at ≡ Found.Instruction d → length (own_bytes d (drop at code)) ≡ d.length
+pub own_length : (code : List ℕ) (at : ℕ) (d : Decoded) → decode_of code at ≡ Ok d → length (own_bytes d (drop at code)) ≡ d.length
 unfolding own_bytes
 own_length code at d e = length-take-le d.length (drop at code) (found_standing code at d e).inside
 
 -- it lies inside the code
-pub found_inside : (code : List ℕ) (at : ℕ) (d : Decoded) → decode_of code at ≡ Found.Instruction d → at + d.length ≤ length code
+pub found_inside : (code : List ℕ) (at : ℕ) (d : Decoded) → decode_of code at ≡ Ok d → at + d.length ≤ length code
 found_inside code at d e =
     let s = found_standing code at d e in
     omega (arith, s.some, s.inside, length-drop at code)
 
 -- an answer that is cut
-is_cut : {bytes : List ℕ} {r : Found} → Answers bytes r → r ≡ Found.Cut → Prefix bytes
+is_cut : {bytes : List ℕ} {r : Found} → Answers bytes r → r ≡ Err Fault.Cut → Prefix bytes
 is_cut (instruction i) e = absurd (let z : ◌≡◌ {A = ℕ} 0 1 = cc in omega arith)
 is_cut (cut p) e = p
 is_cut (unknown b p) e = absurd (let z : ◌≡◌ {A = ℕ} 0 1 = cc in omega arith)
 
 -- where decode gives cut, the bytes to the code's end are a proper prefix of an instruction
-pub found_cut : (code : List ℕ) (at : ℕ) → decode_of code at ≡ Found.Cut → Prefix (drop at code)
+pub found_cut : (code : List ℕ) (at : ℕ) → decode_of code at ≡ Err Fault.Cut → Prefix (drop at code)
 found_cut code at e = is_cut (decode_answers code at) e
 
 -- an answer that is unknown
-is_unknown : {bytes : List ℕ} {r : Found} → Answers bytes r → r ≡ Found.Unknown → (Begins bytes → ⊥) × (Prefix bytes → ⊥)
+is_unknown : {bytes : List ℕ} {r : Found} → Answers bytes r → r ≡ Err Fault.Unknown → (Begins bytes → ⊥) × (Prefix bytes → ⊥)
 is_unknown (instruction i) e = absurd (let z : ◌≡◌ {A = ℕ} 0 1 = cc in omega arith)
 is_unknown (cut p) e = absurd (let z : ◌≡◌ {A = ℕ} 0 1 = cc in omega arith)
 is_unknown (unknown b p) e = (b, p)
 
 -- where it gives unknown, they neither begin with an instruction nor are such a prefix
-pub found_unknown : (code : List ℕ) (at : ℕ) → decode_of code at ≡ Found.Unknown → (Begins (drop at code) → ⊥) × (Prefix (drop at code) → ⊥)
+pub found_unknown : (code : List ℕ) (at : ℕ) → decode_of code at ≡ Err Fault.Unknown → (Begins (drop at code) → ⊥) × (Prefix (drop at code) → ⊥)
 found_unknown code at e = is_unknown (decode_answers code at) e

@@ -3,11 +3,11 @@
 use mathlib.Core.Path.{◌≡◌, refl, ap, ◌∙◌, subst, sym}
 use mathlib.Core.Bool.{Bool, true, false}
 use mathlib.Core.List.{List, [], ◌∷◌}
-use Prim.Native.Nat.{ℕ, zero, suc, ◌+◌, ◌≤◌, ◌<◌, zero-le}
+use Prim.Native.Nat.{ℕ, zero, suc, ◌+◌, ◌≤◌, ◌<◌}
 use native.Mathlib.Nat.{add-zero, add-suc, suc-add, zero-add, le_of_suc-le-suc, not-suc-le-zero}
 use native.Mathlib.Omega.{arith}
 use lib.Dec.{T, ltb}
-use lib.ListN.{length, get_or, get_or-eq_default}
+use lib.ListN.{get_or}
 use borrow.Author.Tests.{ltb-true, ltb-false}
 use Rattle.grammar.specs.Choice.{both, either}
 
@@ -37,17 +37,9 @@ pub both_right_held : (a b : Bool) → both a b ≡ true → b ≡ true
 both_right_held true b e = e
 both_right_held false b e = absurd (let z : ◌≡◌ {A = ℕ} 0 1 = cc in omega arith)
 
-pub both_left_fails : {a : Bool} (b : Bool) → a ≡ false → both a b ≡ false
-both_left_fails b p = rw p
-
 pub both_right_fails : (a : Bool) {b : Bool} → b ≡ false → both a b ≡ false
 both_right_fails true p = p
 both_right_fails false p = refl
-
--- one test, or one that fails
-pub either_fails : (a : Bool) → a ≡ either a false
-either_fails true = refl
-either_fails false = refl
 
 -- the test at each number from i on
 from : (f : ℕ → Bool) (i n : ℕ) → T (every f i n) → (k : ℕ) → k < n → T (f (i + k))
@@ -60,20 +52,6 @@ from f i (suc n) t (suc k) h =
 -- the test at each number below n
 pub below : (f : ℕ → Bool) (n : ℕ) → T (every f 0 n) → (k : ℕ) → k < n → T (f k)
 below f n t k h = subst (λ (m : ℕ). T (f m)) (zero-add k) (from f 0 n t k h)
-
--- x is none of the numbers below k
-abbrev pub Beyond : ℕ → ℕ → Type 0
-Beyond zero x = Unit {0}
-Beyond (suc k) x = Beyond k x × (x ≡ k → ⊥)
-
--- so x is at least k
-pub beyond : (k x : ℕ) → Beyond k x → k ≤ x
-beyond zero x h = zero-le
-beyond (suc k) x h = let l = beyond k x h.0 in let other = h.1 in omega arith
-
--- past a list's end stands the default
-pub default : {A : Type 0} (l : List A) (a : A) (n : ℕ) → Beyond (length l) n → get_or l n a ≡ a
-default l a n h = get_or-eq_default l a (beyond (length l) n h)
 
 -- the test passes at one of the n numbers from i on
 unfoldable pub some : (ℕ → Bool) → ℕ → ℕ → Bool
@@ -115,7 +93,7 @@ values_at f i (suc n) (suc k) d h =
     values_at f (suc i) n k d (le_of_suc-le-suc h) ∙ ap f (suc-add i k ∙ sym (add-suc i k))
 
 -- what two functions give, one number after the other, being the same, they give the same at each of them
-carried : {A : Type 0} (f g : ℕ → A) (n : ℕ) → values f 0 n ≡ values g 0 n → (k : ℕ) → k < n → f k ≡ g k
+pub carried : {A : Type 0} (f g : ℕ → A) (n : ℕ) → values f 0 n ≡ values g 0 n → (k : ℕ) → k < n → f k ≡ g k
 carried {A} f g n e k h =
     ap f (sym (zero-add k)) ∙ sym (values_at f 0 n k (f k) h) ∙ ap (λ (l : List A). get_or l k (f k)) e ∙ values_at g 0 n k (f k) h ∙ ap g (zero-add k)
 

@@ -15,36 +15,38 @@ use Rattle.grammar.specs.Answers.{displaced}
 use Rattle.grammar.specs.Reading.{run, bytes_then}
 use Rattle.grammar.specs.Decoding.{tail_tree, address_tree, modrm_tree, operand_tree, accepts, entry_tree, opcode_tree, escapes, escape_tree, first_tree, size_tree, repeat_tree, tree, answer, found, decode_of}
 use Rattle.grammar.specs.Cases.{Saying, cut, unknown, one, BytesCase, Holds, All, case13, cases_m_100, cases_m_106}
-use Rattle.grammar.specs.declared.instruction.Found.{Found}
+use Rattle.grammar.specs.Answers.{Found}
+use Rattle.std.specs.Prelude.{Ok, Err}
+use Rattle.grammar.specs.declared.instruction.Fault.{Fault}
 use Rattle.grammar.proofs.Below.{both_left, both_right}
 use Rattle.grammar.proofs.Answered.{decode_answers, found_standing}
 
 -- what is found is as the verdict says, of n bytes
 agrees : Saying → ℕ → Found → Bool
-agrees cut n (Found.Instruction d) = false
-agrees cut n Found.Cut = true
-agrees cut n Found.Unknown = false
-agrees unknown n (Found.Instruction d) = false
-agrees unknown n Found.Cut = false
-agrees unknown n Found.Unknown = true
-agrees one n (Found.Instruction d) = eqb d.length n
-agrees one n Found.Cut = false
-agrees one n Found.Unknown = false
+agrees cut n (Ok d) = false
+agrees cut n (Err Fault.Cut) = true
+agrees cut n (Err Fault.Unknown) = false
+agrees unknown n (Ok d) = false
+agrees unknown n (Err Fault.Cut) = false
+agrees unknown n (Err Fault.Unknown) = true
+agrees one n (Ok d) = eqb d.length n
+agrees one n (Err Fault.Cut) = false
+agrees one n (Err Fault.Unknown) = false
 
 -- so the verdict holds of the grammar
 holds : (v : Saying) (bytes : List ℕ) (r : Found) → decode_of bytes 0 ≡ r → T (agrees v (length bytes) r) → Holds v bytes
 unfolding agrees Holds
-holds cut bytes Found.Cut e t = rw e at (decode_answers bytes 0)
-holds unknown bytes Found.Unknown e t = rw e at (decode_answers bytes 0)
-holds one bytes (Found.Instruction d) e t =
+holds cut bytes (Err Fault.Cut) e t = rw e at (decode_answers bytes 0)
+holds unknown bytes (Err Fault.Unknown) e t = rw e at (decode_answers bytes 0)
+holds one bytes (Ok d) e t =
     let s = found_standing bytes 0 d e in
     rw (eqb→eq d.length (length bytes) t, take-length bytes) at s.own
-holds cut bytes (Found.Instruction d) e t = absurd t
-holds cut bytes Found.Unknown e t = absurd t
-holds unknown bytes (Found.Instruction d) e t = absurd t
-holds unknown bytes Found.Cut e t = absurd t
-holds one bytes Found.Cut e t = absurd t
-holds one bytes Found.Unknown e t = absurd t
+holds cut bytes (Ok d) e t = absurd t
+holds cut bytes (Err Fault.Unknown) e t = absurd t
+holds unknown bytes (Ok d) e t = absurd t
+holds unknown bytes (Err Fault.Cut) e t = absurd t
+holds one bytes (Err Fault.Cut) e t = absurd t
+holds one bytes (Err Fault.Unknown) e t = absurd t
 
 -- all of a table agrees
 test : List BytesCase → Bool

@@ -12,7 +12,8 @@ use Rattle.grammar.specs.Grammar.{reg_of, allows, allows66}
 use Rattle.grammar.specs.Decoding.{has_modrm}
 use Rattle.grammar.specs.declared.rule.ModRM.{ModRM}
 use Rattle.grammar.specs.declared.rule.Rule.{Rule}
-use Rattle.grammar.specs.declared.rule.Entry.{Entry}
+use Rattle.grammar.specs.Opcodes.{Entry}
+use Rattle.std.specs.Prelude.{None, Some}
 use Rattle.grammar.proofs.Below.{every, below}
 use Rattle.grammar.proofs.Entries.{ends, lists_past, without_rule}
 
@@ -44,8 +45,8 @@ completing_small g = by (allows g 0)
 
 -- where 66, or its absence, is allowed with reg field 0, it is with that byte's
 suits : Bool → Entry → Bool
-suits narrow Entry.Unlisted = true
-suits narrow (Entry.Listed rule) = pick (allows66 rule.size narrow 0) (allows66 rule.size narrow (reg_of (completing rule.modrm))) true
+suits narrow None = true
+suits narrow (Some rule) = pick (allows66 rule.size narrow 0) (allows66 rule.size narrow (reg_of (completing rule.modrm))) true
 
 -- a test over the rules
 suits_below : (narrow : Bool) → T (every (λ k. suits narrow (rule_of k)) 0 512)
@@ -63,7 +64,7 @@ suited narrow k = by (ltb k 512) refl
     by false e = rw (without_rule k (lists_past forms 512 k tt (ltb-false k 512 e))) tt
 
 -- 66, or its absence, is allowed with that byte
-pub completing_66 : (narrow : Bool) (k : ℕ) {rule : Rule} → rule_of k ≡ Entry.Listed rule → allows66 rule.size narrow 0 ≡ true
+pub completing_66 : (narrow : Bool) (k : ℕ) {rule : Rule} → rule_of k ≡ Some rule → allows66 rule.size narrow 0 ≡ true
     → allows66 rule.size narrow (reg_of (completing rule.modrm)) ≡ true
 unfolding suits pick
 completing_66 narrow k {rule} listed zero = held _ zero (rw listed at (suited narrow k))

@@ -16,9 +16,10 @@ use Rattle.grammar.specs.declared.rule.ModRM.{ModRM}
 use Rattle.grammar.specs.declared.rule.Immediate.{Immediate}
 use Rattle.grammar.specs.declared.rule.Repeat.{Repeat}
 use Rattle.grammar.specs.declared.rule.Rule.{Rule}
-use Rattle.grammar.specs.declared.rule.Entry.{Entry}
+use Rattle.grammar.specs.Opcodes.{Entry}
+use Rattle.std.specs.Prelude.{None, Some}
 use Rattle.grammar.specs.declared.instruction.Decoded.{Decoded}
-use Rattle.grammar.specs.declared.instruction.Found.{Found}
+use Rattle.std.specs.Prelude.{Ok}
 use Rattle.grammar.proofs.Below.{every, below, both_left, both_right, both_hold}
 use Rattle.grammar.proofs.Counts.{displacement_count}
 use Rattle.grammar.proofs.Operands.{bytes_length, sib_length_lem, allows_has}
@@ -95,8 +96,8 @@ short_either repeat n rule = both (short true repeat n rule) (short false repeat
 
 -- whichever prefixes it has
 short_all : ℕ → Entry → Bool
-short_all n Entry.Unlisted = true
-short_all n (Entry.Listed rule) = both (short_either Repeat.Absent n rule) (both (short_either Repeat.F2 n rule) (short_either Repeat.F3 n rule))
+short_all n None = true
+short_all n (Some rule) = both (short_either Repeat.Absent n rule) (both (short_either Repeat.F2 n rule) (short_either Repeat.F3 n rule))
 
 -- the test over the opcodes alone, and over those after 0F
 short_alone : T (every (λ k. short_all 1 (rule_of k)) 0 0x100)
@@ -114,7 +115,7 @@ short_opcode (alone b) h = below (λ k. short_all 1 (rule_of k)) 0x100 short_alo
 short_opcode (after_0f b) h = below (λ k. short_all 2 (rule_of (0x100 + k))) 0x100 short_after_0f b h
 
 -- with each choice of prefixes
-short_repeat : (repeat : Repeat) (n : ℕ) (rule : Rule) → T (short_all n (Entry.Listed rule)) → T (short_either repeat n rule)
+short_repeat : (repeat : Repeat) (n : ℕ) (rule : Rule) → T (short_all n (Some rule)) → T (short_either repeat n rule)
 unfolding short_all
 short_repeat Repeat.Absent n rule t = both_left (short_either Repeat.Absent n rule) (both (short_either Repeat.F2 n rule) (short_either Repeat.F3 n rule)) t
 short_repeat Repeat.F2 n rule t =
@@ -130,11 +131,11 @@ short_narrow true repeat n rule t = both_left (short true repeat n rule) (short 
 short_narrow false repeat n rule t = both_right (short true repeat n rule) (short false repeat n rule) t
 
 -- so by its rule
-short_rule : (narrow : Bool) (repeat : Repeat) (n : ℕ) (rule : Rule) (e : Entry) → e ≡ Entry.Listed rule → accepts narrow repeat rule ≡ true
+short_rule : (narrow : Bool) (repeat : Repeat) (n : ℕ) (rule : Rule) (e : Entry) → e ≡ Some rule → accepts narrow repeat rule ≡ true
     → T (short_all n e) → most narrow repeat n rule ≤ 11
 unfolding short pick
 short_rule narrow repeat n rule e listed accepted t =
-    let whole : T (short_all n (Entry.Listed rule)) = rw listed at t in
+    let whole : T (short_all n (Some rule)) = rw listed at t in
     let test : T (short narrow repeat n rule) = short_narrow narrow repeat n rule (short_repeat repeat n rule whole) in
     leb→le (most narrow repeat n rule) 11 (rw accepted at test)
 
@@ -155,7 +156,7 @@ eleven i =
     omega (arith, simp length-append at (ap length i.joined))
 
 -- nor does one that decode finds
-pub found_eleven : (code : List ℕ) (at : ℕ) (d : Decoded) → decode_of code at ≡ Found.Instruction d → d.length ≤ 11
+pub found_eleven : (code : List ℕ) (at : ℕ) (d : Decoded) → decode_of code at ≡ Ok d → d.length ≤ 11
 unfolding numbers
 found_eleven code at d e =
     let s = found_standing code at d e in

@@ -14,7 +14,8 @@ use Rattle.grammar.specs.Decoding.{tail_tree, address_tree, modrm_tree, has_modr
 use Rattle.grammar.specs.declared.rule.Immediate.{Immediate}
 use Rattle.grammar.specs.declared.rule.Repeat.{Repeat}
 use Rattle.grammar.specs.declared.rule.Rule.{Rule}
-use Rattle.grammar.specs.declared.rule.Entry.{Entry}
+use Rattle.grammar.specs.Opcodes.{Entry}
+use Rattle.std.specs.Prelude.{None, Some}
 use Rattle.grammar.specs.declared.instruction.Decoded.{Decoded}
 use Rattle.grammar.proofs.Below.{both_hold, both_right_held, some_number}
 use Rattle.grammar.proofs.Trees.{Ends, Live, here, read, nowhere, ends_then, live_then}
@@ -79,7 +80,7 @@ module _ (rule : Rule) (d : Decoded) (size : allows66 rule.size d.narrow (reg_of
 
 module _ (n : ℕ) (narrow : Bool) (repeat : Repeat) (k : ℕ) where
   -- an opcode's rule that takes the prefixes takes them with a ModR/M byte that completes it
-  size_taken : {rule : Rule} → rule_of k ≡ Entry.Listed rule → accepts narrow repeat rule ≡ true
+  size_taken : {rule : Rule} → rule_of k ≡ Some rule → accepts narrow repeat rule ≡ true
       → allows66 rule.size narrow (reg_of (completing rule.modrm)) ≡ true
   unfolding accepts
   size_taken {rule} listed accepted = completing_66 narrow k listed (both_right_held (allows_repeat rule.repeats repeat) _ accepted)
@@ -87,13 +88,13 @@ module _ (n : ℕ) (narrow : Bool) (repeat : Repeat) (k : ℕ) where
   -- what follows an opcode
   ends_entry : (e : Entry) → rule_of k ≡ e → accepts_entry narrow repeat e ≡ true → Ends (entry_tree n narrow repeat k e)
   unfolding entry_tree accepts_entry
-  ends_entry Entry.Unlisted listed accepted = absurd (let z : ◌≡◌ {A = ℕ} 0 1 = cc in omega arith)
-  ends_entry (Entry.Listed rule) listed accepted = ends_yes none accepted (ends_operand rule _ (size_taken listed accepted))
+  ends_entry None listed accepted = absurd (let z : ◌≡◌ {A = ℕ} 0 1 = cc in omega arith)
+  ends_entry (Some rule) listed accepted = ends_yes none accepted (ends_operand rule _ (size_taken listed accepted))
 
   live_entry : (e : Entry) → rule_of k ≡ e → Live (entry_tree n narrow repeat k e)
   unfolding entry_tree
-  live_entry Entry.Unlisted listed = nowhere
-  live_entry (Entry.Listed rule) listed = live_pick _ (λ accepted. live_operand rule _ (size_taken listed accepted)) nowhere
+  live_entry None listed = nowhere
+  live_entry (Some rule) listed = live_pick _ (λ accepted. live_operand rule _ (size_taken listed accepted)) nowhere
 
   ends_opcode : accepts_entry narrow repeat (rule_of k) ≡ true → Ends (opcode_tree n narrow repeat k)
   unfolding opcode_tree

@@ -5,13 +5,14 @@ use mathlib.Core.Bool.{Bool, true, false}
 use Rattle.grammar.specs.Opcodes.{rule_of}
 use Rattle.grammar.specs.Decoding.{accepts, escapes}
 use Rattle.grammar.specs.declared.rule.Repeat.{Repeat}
-use Rattle.grammar.specs.declared.rule.Entry.{Entry}
+use Rattle.grammar.specs.Opcodes.{Entry}
+use Rattle.std.specs.Prelude.{None, Some}
 use Rattle.grammar.proofs.Below.{some}
 
 -- whether the prefixes are allowed before the opcode of an entry
 unfoldable pub accepts_entry : Bool → Repeat → Entry → Bool
-accepts_entry narrow repeat Entry.Unlisted = false
-accepts_entry narrow repeat (Entry.Listed rule) = accepts narrow repeat rule
+accepts_entry narrow repeat None = false
+accepts_entry narrow repeat (Some rule) = accepts narrow repeat rule
 
 -- they are before some opcode after 0F just where 0F may follow them
 pub escapes_some : (narrow : Bool) (repeat : Repeat) → some (λ k. accepts_entry narrow repeat (rule_of k)) 0x100 0x100 ≡ escapes narrow repeat

@@ -18,7 +18,8 @@ use Rattle.grammar.specs.Decoding.{opened, operand_tree, accepts, entry_tree, op
 use Rattle.grammar.specs.declared.rule.Prefix66.{Prefix66}
 use Rattle.grammar.specs.declared.rule.Repeat.{Repeat}
 use Rattle.grammar.specs.declared.rule.Rule.{Rule}
-use Rattle.grammar.specs.declared.rule.Entry.{Entry}
+use Rattle.grammar.specs.Opcodes.{Entry}
+use Rattle.std.specs.Prelude.{None, Some}
 use Rattle.grammar.specs.declared.instruction.Decoded.{Decoded}
 use Rattle.grammar.proofs.Trees.{Spells, spells_no, read, spells_yes, pick_spells, none_spells, held}
 use Rattle.grammar.proofs.Operands.{operand_spells, spells_operand, gathered}
@@ -34,21 +35,21 @@ allows66_zero Prefix66.Only01 true field e = refl
 allows66_zero Prefix66.Only01 false field e = refl
 
 -- a listed opcode that takes the prefixes
-opcode_spells : (n : ℕ) (narrow : Bool) (repeat : Repeat) (k : ℕ) {rule : Rule} {x : Decoded} {bytes : List ℕ} → rule_of k ≡ Entry.Listed rule
+opcode_spells : (n : ℕ) (narrow : Bool) (repeat : Repeat) (k : ℕ) {rule : Rule} {x : Decoded} {bytes : List ℕ} → rule_of k ≡ Some rule
     → accepts narrow repeat rule ≡ true → Spells (operand_tree rule (opened n narrow repeat k)) x bytes → Spells (opcode_tree n narrow repeat k) x bytes
 unfolding opcode_tree entry_tree
 opcode_spells n narrow repeat k e accepted s = rw e (spells_yes none accepted s)
 
 -- what follows an opcode is spelled by its rule alone
 spells_opcode : (n : ℕ) (narrow : Bool) (repeat : Repeat) (k : ℕ) {x : Decoded} {bytes : List ℕ} → Spells (opcode_tree n narrow repeat k) x bytes
-    → (rule : Rule) × (rule_of k ≡ Entry.Listed rule) × (accepts narrow repeat rule ≡ true) × Spells (operand_tree rule (opened n narrow repeat k)) x bytes
+    → (rule : Rule) × (rule_of k ≡ Some rule) × (accepts narrow repeat rule ≡ true) × Spells (operand_tree rule (opened n narrow repeat k)) x bytes
 unfolding opcode_tree entry_tree
 spells_opcode n narrow repeat k {x} {bytes} s = go (rule_of k) refl s
   where
     go : (e : Entry) → rule_of k ≡ e → Spells (entry_tree n narrow repeat k e) x bytes
-        → (rule : Rule) × (rule_of k ≡ Entry.Listed rule) × (accepts narrow repeat rule ≡ true) × Spells (operand_tree rule (opened n narrow repeat k)) x bytes
-    go Entry.Unlisted e s = absurd (none_spells s refl)
-    go (Entry.Listed rule) e s = let (accepted, t) = held (accepts narrow repeat rule) _ s in (rule, e, accepted, t)
+        → (rule : Rule) × (rule_of k ≡ Some rule) × (accepts narrow repeat rule ≡ true) × Spells (operand_tree rule (opened n narrow repeat k)) x bytes
+    go None e s = absurd (none_spells s refl)
+    go (Some rule) e s = let (accepted, t) = held (accepts narrow repeat rule) _ s in (rule, e, accepted, t)
 
 -- parts, one by one
 abbrev parts_of : Prefixes → Opcode → Operand → List ℕ → Parts
@@ -167,18 +168,18 @@ lead_small (alone b) h = h
 lead_small (after_0f b) h = omega arith
 
 -- an unlisted byte is no listed opcode
-unlike : (b v : ℕ) {rule : Rule} → rule_of b ≡ Entry.Listed rule → rule_of v ≡ Entry.Unlisted → eqb b v ≡ false
+unlike : (b v : ℕ) {rule : Rule} → rule_of b ≡ Some rule → rule_of v ≡ None → eqb b v ≡ false
 unlike b v listed e = ne_eqb b v (λ same. let z : ◌≡◌ {A = ℕ} 0 1 = cc in omega arith)
 
 -- and, but for 0F, begins none
-not_lead : (o : Opcode) {rule : Rule} (v : ℕ) → rule_of (opcode_number o) ≡ Entry.Listed rule → rule_of v ≡ Entry.Unlisted → eqb 0x0F v ≡ false → eqb (lead o) v ≡ false
+not_lead : (o : Opcode) {rule : Rule} (v : ℕ) → rule_of (opcode_number o) ≡ Some rule → rule_of v ≡ None → eqb 0x0F v ≡ false → eqb (lead o) v ≡ false
 unfolding opcode_number
 not_lead (alone b) v listed e f = unlike b v listed e
 not_lead (after_0f b) v listed e f = f
 
 -- an opcode and what follows it
 first_spells : (n : ℕ) (narrow : Bool) (repeat : Repeat) (o : Opcode) {rule : Rule} {x : Decoded} {bytes : List ℕ} → opcode_byte o < 256
-    → rule_of (opcode_number o) ≡ Entry.Listed rule → accepts narrow repeat rule ≡ true
+    → rule_of (opcode_number o) ≡ Some rule → accepts narrow repeat rule ≡ true
     → Spells (operand_tree rule (opened (n + length (opcode_bytes o)) narrow repeat (opcode_number o))) x bytes
     → Spells (first_tree n narrow repeat (lead o)) x (second o ++ bytes)
 unfolding first_tree escape_tree opcode_bytes opcode_number accepts_entry
@@ -197,7 +198,7 @@ repeat_spells F2 s = read {b = 0xF2} (omega arith) (spells_no _ refl (spells_yes
 repeat_spells F3 s = read {b = 0xF3} (omega arith) (spells_no _ refl (spells_no _ refl (spells_yes _ refl s)))
 
 -- prefixes, and an opcode after them
-module _ (o : Opcode) (rule : Rule) (small : opcode_byte o < 256) (listed : rule_of (opcode_number o) ≡ Entry.Listed rule) where
+module _ (o : Opcode) (rule : Rule) (small : opcode_byte o < 256) (listed : rule_of (opcode_number o) ≡ Some rule) where
   not_66 : eqb (lead o) 0x66 ≡ false
   not_66 = not_lead o 0x66 listed unlisted_66 refl
 

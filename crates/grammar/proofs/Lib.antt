@@ -5,13 +5,13 @@ pub mod Entries
 pub mod Alike
 pub mod Escapes
 pub mod Trees
-pub mod Finding
 pub mod Operands
 pub mod Unlisted
 pub mod Exact
 pub mod Completions
 pub mod Endings
 pub mod Answered
+pub mod Lefts
 pub mod Eleven
 pub mod Cases
 pub mod Relatives

@@ -1,11 +1,15 @@
 -- What stands at the front of some bytes, by the grammar: a whole instruction in numbers, a cut one, or none.
 -- Assumes nothing.
-use Rattle.std.specs.Prelude.{◌≡◌, List, [], ◌∷◌, ◌++◌, ℕ, ◌+◌, length, take, nat_lt, slice_index}
+use Rattle.std.specs.Prelude.{◌≡◌, List, [], ◌∷◌, ◌++◌, ℕ, ◌+◌, length, take, nat_lt, slice_index, Result, Ok, Err}
 use Rattle.width.specs.LittleEndian.{little_endian}
 use Rattle.grammar.specs.Choice.{pick}
 use Rattle.grammar.specs.Grammar.{Operand, absent, addressed, Parts, Instruction, bytes_of, opcode_number, narrow_of, repeat_in}
 use Rattle.grammar.specs.declared.instruction.Decoded.{Decoded}
-use Rattle.grammar.specs.declared.instruction.Found.{Found}
+use Rattle.grammar.specs.declared.instruction.Fault.{Fault}
+
+-- what stands at a place of the code: a whole instruction; or the code ends inside one, or none begins so
+abbrev pub Found : Type 0
+Found = Result Decoded Fault
 
 -- a displacement as a 32-bit number: one byte is extended by sign
 unfoldable pub displaced : List ℕ → ℕ
@@ -59,6 +63,6 @@ pub record Prefix (bytes : List ℕ) : Type 0 where
 
 -- what is found at the front of the bytes
 pub data Answers (bytes : List ℕ) : Found → Type 0 where
-  instruction : (i : Begins bytes) → Answers bytes (Found.Instruction (numbers i.instruction.parts))
-  cut : Prefix bytes → Answers bytes Found.Cut
-  unknown : (Begins bytes → ⊥) → (Prefix bytes → ⊥) → Answers bytes Found.Unknown
+  instruction : (i : Begins bytes) → Answers bytes (Ok (numbers i.instruction.parts))
+  cut : Prefix bytes → Answers bytes (Err Fault.Cut)
+  unknown : (Begins bytes → ⊥) → (Prefix bytes → ⊥) → Answers bytes (Err Fault.Unknown)

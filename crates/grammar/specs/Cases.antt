@@ -3,7 +3,8 @@
 use Rattle.std.specs.Prelude.{List, [], ◌∷◌, ℕ}
 use Rattle.grammar.specs.Grammar.{Instruction}
 use Rattle.grammar.specs.Answers.{Answers}
-use Rattle.grammar.specs.declared.instruction.Found.{Found}
+use Rattle.std.specs.Prelude.{Err}
+use Rattle.grammar.specs.declared.instruction.Fault.{Fault}
 
 -- what is said of some bytes
 pub data Saying : Type 0 where
@@ -20,8 +21,8 @@ case bytes says = record { bytes = bytes; says = says }
 
 -- cut; no such instruction; one instruction
 unfoldable pub Holds : Saying → List ℕ → Type 0
-Holds cut bytes = Answers bytes Found.Cut
-Holds unknown bytes = Answers bytes Found.Unknown
+Holds cut bytes = Answers bytes (Err Fault.Cut)
+Holds unknown bytes = Answers bytes (Err Fault.Unknown)
 Holds one bytes = Instruction bytes
 
 -- each case holds

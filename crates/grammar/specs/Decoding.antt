@@ -11,11 +11,12 @@ use Rattle.grammar.specs.declared.rule.ModRM.{ModRM}
 use Rattle.grammar.specs.declared.rule.Immediate.{Immediate}
 use Rattle.grammar.specs.declared.rule.Repeat.{Repeat}
 use Rattle.grammar.specs.declared.rule.Rule.{Rule}
-use Rattle.grammar.specs.declared.rule.Entry.{Entry}
+use Rattle.grammar.specs.Opcodes.{Entry}
+use Rattle.std.specs.Prelude.{None, Some}
 use Rattle.grammar.specs.declared.instruction.Decoded.{Decoded}
-use Rattle.grammar.specs.declared.instruction.Found.{Found}
-use Rattle.grammar.specs.declared.decode.Prefixes.{Prefixes}
-use Rattle.grammar.specs.declared.decode.Named.{Named}
+use Rattle.grammar.specs.Answers.{Found}
+use Rattle.std.specs.Prelude.{Ok, Err}
+use Rattle.grammar.specs.declared.instruction.Fault.{Fault}
 
 -- a count of bytes that a number is read from: 0, 1, 2 or 4
 pub record Count (n : ℕ) : Type 0 where
@@ -113,8 +114,8 @@ accepts narrow repeat rule = both (allows_repeat rule.repeats repeat) (allows66 
 
 -- what follows the opcode, by its entry
 unfoldable pub entry_tree : ℕ → Bool → Repeat → ℕ → Entry → Tree Decoded
-entry_tree n narrow repeat k Entry.Unlisted = none
-entry_tree n narrow repeat k (Entry.Listed rule) = pick (accepts narrow repeat rule) (operand_tree rule (opened n narrow repeat k)) none
+entry_tree n narrow repeat k None = none
+entry_tree n narrow repeat k (Some rule) = pick (accepts narrow repeat rule) (operand_tree rule (opened n narrow repeat k)) none
 
 -- what follows the opcode's number, n bytes being read
 unfoldable pub opcode_tree : ℕ → Bool → Repeat → ℕ → Tree Decoded
@@ -154,39 +155,13 @@ tree =
 
 -- what is found, by what reading gives
 unfoldable pub answer : Read Decoded → Found
-answer (whole d rest) = Found.Instruction d
-answer short = Found.Cut
-answer wrong = Found.Unknown
+answer (whole d rest) = Ok d
+answer short = Err Fault.Cut
+answer wrong = Err Fault.Unknown
 
 -- what a tree finds at a place of the bytes
 unfoldable pub found : Tree Decoded → List ℕ → ℕ → Found
 found t bytes at = answer (run t (drop at bytes))
-
--- prefixes of so many bytes
-abbrev pub prefixes_of : ℕ → Bool → Repeat → Prefixes
-prefixes_of read narrow repeat = record { read = read; narrow = narrow; repeat = repeat }
-
--- what a tree finds at a place is what follows the prefixes at `at`, and these end inside the code
-pub record Prefixed (t : Tree Decoded) (code : List ℕ) (at place : ℕ) (p : Prefixes) : Type 0 where
-  pub is : found t code place ≡ found (byte (first_tree p.read p.narrow p.repeat)) code (at + p.read)
-  pub inside : at + p.read ≤ length code
-
--- what is found, by the opcode that stands after the prefixes
-abbrev pub found_by : Bool → Repeat → List ℕ → ℕ → Named → Found
-found_by narrow repeat code at (Named.Opcode read number) = found (opcode_tree read narrow repeat number) code (at + read)
-found_by narrow repeat code at Named.Cut = Found.Cut
-found_by narrow repeat code at Named.Unknown = Found.Unknown
-
--- an opcode ends inside the code
-abbrev pub EndsInside : List ℕ → ℕ → Named → Type 0
-EndsInside code at (Named.Opcode read number) = at + read ≤ length code
-EndsInside code at Named.Cut = Unit {0}
-EndsInside code at Named.Unknown = Unit {0}
-
--- what a tree finds at a place is what follows the opcode named, and this ends inside the code
-pub record Names (t : Tree Decoded) (code : List ℕ) (at place : ℕ) (narrow : Bool) (repeat : Repeat) (r : Named) : Type 0 where
-  pub is : found t code place ≡ found_by narrow repeat code at r
-  pub inside : EndsInside code at r
 
 -- what stands at a place of the code
 unfoldable pub decode_of : List ℕ → ℕ → Found

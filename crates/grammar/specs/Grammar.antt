@@ -9,7 +9,7 @@ use Rattle.grammar.specs.declared.rule.Prefix66.{Prefix66}
 use Rattle.grammar.specs.declared.rule.PrefixRepeat.{PrefixRepeat}
 use Rattle.grammar.specs.declared.rule.Repeat.{Repeat}
 use Rattle.grammar.specs.declared.rule.Rule.{Rule}
-use Rattle.grammar.specs.declared.rule.Entry.{Entry}
+use Rattle.std.specs.Prelude.{Some}
 
 -- so many bytes
 pub data Bytes : ℕ → List ℕ → Type 0 where
@@ -206,7 +206,7 @@ bytes_of p = prefix_bytes p.prefixes ++ (opcode_bytes p.opcode ++ (operand_bytes
 pub record Built (p : Parts) : Type 0 where
   pub rule : Rule
   pub opcode : opcode_byte p.opcode < 256
-  pub listed : rule_of (opcode_number p.opcode) ≡ Entry.Listed rule
+  pub listed : rule_of (opcode_number p.opcode) ≡ Some rule
   pub size : allows66 rule.size (narrow_of p.prefixes) (field_of p.operand) ≡ true
   pub repeat : allows_repeat rule.repeats (repeat_in p.prefixes) ≡ true
   pub operand : OperandFits rule.modrm p.operand

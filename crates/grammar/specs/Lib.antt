@@ -1,11 +1,11 @@
 pub mod Choice
 pub mod Opcodes
 pub mod Rows
-pub mod Table
 pub mod Grammar
 pub mod Answers
 pub mod Relative
 pub mod Displacements
 pub mod Reading
 pub mod Decoding
+pub mod Fields
 pub mod Cases

@@ -1,6 +1,6 @@
 -- The opcodes, line by line as document 01 lists them, and then document 02. An opcode is a number: 00 to FF alone, 100 to 1FF after 0F.
 -- Assumes nothing.
-use Rattle.std.specs.Prelude.{Bool, true, false, List, [], ◌∷◌, ◌++◌, ℕ, ◌+◌, ◌*◌, nat_le}
+use Rattle.std.specs.Prelude.{Option, Some, None, Bool, true, false, List, [], ◌∷◌, ◌++◌, ℕ, ◌+◌, ◌*◌, nat_le}
 use Rattle.grammar.specs.Choice.{pick, both, either}
 use Rattle.grammar.specs.declared.rule.ModRM.{ModRM}
 use Rattle.grammar.specs.declared.rule.ModRM.TheVariants.{Any, Memory, AllBut6, Only0, AllBut1, Only01, Only01246, Only4567}
@@ -9,7 +9,11 @@ use Rattle.grammar.specs.declared.rule.Immediate.TheVariants.{Imm8, Imm16, Imm32
 use Rattle.grammar.specs.declared.rule.Prefix66.{Prefix66}
 use Rattle.grammar.specs.declared.rule.Prefix66.TheVariants.{Allowed}
 use Rattle.grammar.specs.declared.rule.PrefixRepeat.{PrefixRepeat}
-use Rattle.grammar.specs.declared.rule.Entry.{Entry}
+use Rattle.grammar.specs.declared.rule.Rule.{Rule}
+
+-- what the table has at an opcode's number: a rule, or none
+abbrev pub Entry : Type 0
+Entry = Option Rule
 
 -- what a line says of the opcodes from `first` to `last`
 pub record Line (A : Type 0) : Type 0 where
@@ -141,8 +145,8 @@ repeats_of false true true = PrefixRepeat.Either
 
 -- an opcode's form and the prefixes that it takes
 unfoldable pub entry_of : Form → Prefix66 → PrefixRepeat → Entry
-entry_of unlisted s r = Entry.Unlisted
-entry_of (form m i) s r = Entry.Listed (record { modrm = m; immediate = i; size = s; repeats = r })
+entry_of unlisted s r = None
+entry_of (form m i) s r = Some (record { modrm = m; immediate = i; size = s; repeats = r })
 
 -- the rule of an opcode: all that the lists say of it
 unfoldable pub rule_of : ℕ → Entry

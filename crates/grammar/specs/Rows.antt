@@ -1,7 +1,11 @@
 -- The rows of the code's table of opcodes: for its private functions and those of `sense`; nothing here need be believed. Assumes nothing.
-use Rattle.std.specs.Prelude.{List, [], ◌∷◌, ◌++◌, ℕ, ◌+◌, ◌*◌, ◌==◌}
+use denote.Enum.Declared.{tag_of}
+use Rattle.std.specs.Prelude.{slice_index_or, List, [], ◌∷◌, ◌++◌, ℕ, ◌+◌, ◌*◌, ◌==◌}
 use Rattle.grammar.specs.Choice.{pick}
 use Rattle.grammar.specs.Opcodes.{Line, from, at, listed}
+use Rattle.grammar.specs.contracts.rule.Row as R
+use Rattle.grammar.specs.declared.rows.TheConstants.{ROWS}
+use Rattle.grammar.specs.declared.rule.Row.{Row}
 
 -- forms 0 to 5 of ADD OR ADC SBB AND SUB XOR CMP
 abbrev pub alu : ℕ → List (Line ℕ)
@@ -40,3 +44,11 @@ first_in (l ∷ ls) r = pick (l.says == r) l.first (first_in ls r)
 -- the first opcode of a row
 unfoldable pub first_row : ℕ → ℕ
 first_row r = first_in rows r
+
+-- the row that the code's table has at an opcode's place
+abbrev pub row_at : ℕ → Row
+row_at k = slice_index_or ROWS k Row.Unlisted
+
+-- its number above; 255: no such opcode
+abbrev pub number_of : Row → ℕ
+number_of r = pick (tag_of R.the_type r == 98) 255 (tag_of R.the_type r)

@@ -1,4 +1,4 @@
-// The instructions that documents 01 and 02 list: the table of opcodes, what stands at a place of the code, an instruction's own bytes.
+//! The instructions that documents 01 and 02 list: the table of opcodes, what stands at a place of the code, an instruction's own bytes.
 #![tactic(auto)]
 
 mod bytes;

@@ -1,41 +1,25 @@
-// What an opcode's rule asks of the other parts of an instruction, and how many bytes they have.
+//! What an opcode's rule asks of the other parts of an instruction, and how many bytes they have.
 ghost use Rattle.std.specs.Prelude.{◌≡◌};
 ghost use Rattle.grammar.specs.Grammar.{allows, allows66, allows_repeat, only01246, has_sib, bare_length, displacement_length, immediate_length, operand_size};
 ghost use Rattle.grammar.specs.Decoding.{has_modrm, escapes};
 
 use crate::rule::{Immediate, ModRM, Prefix66, PrefixRepeat, Repeat};
 
-// Whether a ModR/M byte follows the opcode.
+/// Whether a ModR/M byte follows the opcode.
 pub fn has_modrm(rule: ModRM) -> bool
     ensures { result ≡ has_modrm rule }
 {
-    match rule {
-        ModRM::Absent => false,
-        ModRM::Any => true,
-        ModRM::Memory => true,
-        ModRM::AllBut6 => true,
-        ModRM::Only0 => true,
-        ModRM::AllBut1 => true,
-        ModRM::Only01 => true,
-        ModRM::Only01246 => true,
-        ModRM::Only4567 => true,
-    }
+    !matches!(rule, ModRM::Absent)
 }
 
-// Whether the reg field is 0, 1, 2, 4 or 6.
+/// Whether the reg field is 0, 1, 2, 4 or 6.
 fn is_01246(field: u8) -> bool
     ensures { result ≡ only01246 field }
 {
-    if field <= 2 {
-        return true;
-    }
-    if field == 4 {
-        return true;
-    }
-    field == 6
+    matches!(field, 0..=2 | 4 | 6)
 }
 
-// Whether the ModR/M byte is one that the rule allows.
+/// Whether the ModR/M byte is one that the rule allows.
 pub fn allows_modrm(rule: ModRM, m: u8) -> bool
     ensures { result ≡ allows rule m }
 {
@@ -53,66 +37,32 @@ pub fn allows_modrm(rule: ModRM, m: u8) -> bool
     }
 }
 
-// Whether 66, or its absence, is allowed before an opcode with this reg field.
+/// Whether 66, or its absence, is allowed before an opcode with this reg field.
 pub fn allows_66(rule: Prefix66, narrow: bool, field: u8) -> bool
     ensures { result ≡ allows66 rule narrow field }
 {
     match rule {
         Prefix66::Refused => !narrow,
         Prefix66::Allowed => true,
-        Prefix66::Only01 => {
-            if narrow {
-                return field <= 1;
-            }
-            true
-        }
+        Prefix66::Only01 => !narrow || field <= 1,
     }
 }
 
-// Whether F2 is allowed before an opcode.
-fn allows_f2(rule: PrefixRepeat) -> bool
-    ensures { result ≡ allows_repeat rule Repeat.F2 }
-{
-    match rule {
-        PrefixRepeat::Refused => false,
-        PrefixRepeat::F2 => true,
-        PrefixRepeat::F3 => false,
-        PrefixRepeat::Either => true,
-        PrefixRepeat::F3Asked => false,
-    }
-}
-
-// Whether F3 is allowed before an opcode.
-fn allows_f3(rule: PrefixRepeat) -> bool
-    ensures { result ≡ allows_repeat rule Repeat.F3 }
-{
-    match rule {
-        PrefixRepeat::Refused => false,
-        PrefixRepeat::F2 => false,
-        PrefixRepeat::F3 => true,
-        PrefixRepeat::Either => true,
-        PrefixRepeat::F3Asked => true,
-    }
-}
-
-// Whether F2, F3 or their absence is allowed before an opcode.
+/// Whether F2, F3 or their absence is allowed before an opcode.
 pub fn allows_repeat(rule: PrefixRepeat, repeat: Repeat) -> bool
     ensures { result ≡ allows_repeat rule repeat }
 {
     match repeat {
-        Repeat::Absent => match rule {
-            PrefixRepeat::Refused => true,
-            PrefixRepeat::F2 => true,
-            PrefixRepeat::F3 => true,
-            PrefixRepeat::Either => true,
-            PrefixRepeat::F3Asked => false,
-        },
-        Repeat::F2 => allows_f2(rule),
-        Repeat::F3 => allows_f3(rule),
+        Repeat::Absent => !matches!(rule, PrefixRepeat::F3Asked),
+        Repeat::F2 => matches!(rule, PrefixRepeat::F2 | PrefixRepeat::Either),
+        Repeat::F3 => matches!(
+            rule,
+            PrefixRepeat::F3 | PrefixRepeat::Either | PrefixRepeat::F3Asked
+        ),
     }
 }
 
-// Whether the prefixes are allowed before any opcode after 0F.
+/// Whether the prefixes are allowed before any opcode after 0F.
 pub fn escapes_after(narrow: bool, repeat: Repeat) -> bool
     ensures { result ≡ escapes narrow repeat }
 {
@@ -123,34 +73,27 @@ pub fn escapes_after(narrow: bool, repeat: Repeat) -> bool
     }
 }
 
-// Whether a SIB byte follows the ModR/M byte.
+/// Whether a SIB byte follows the ModR/M byte.
 pub fn has_sib(m: u8) -> bool
     ensures { result ≡ has_sib m }
 {
-    if m % 8 == 4 {
-        return m / 64 != 3;
-    }
-    false
+    m % 8 == 4 && m / 64 != 3
 }
 
-// How many bytes the displacement has with Mod 0.
+/// How many bytes the displacement has with Mod 0.
+#[tactic(auto, unfolding(crate::specs::Grammar::bare_length, crate::specs::Choice::pick))]
 fn bare_length(m: u8, sib: u8) -> usize
     ensures { result ≡ bare_length m sib }
 {
     let rm = m % 8;
-    if rm == 5 {
-        return 4;
+    if rm == 5 || (rm == 4 && sib % 8 == 5) {
+        4
+    } else {
+        0
     }
-    if rm == 4 {
-        if sib % 8 == 5 {
-            return 4;
-        }
-        return 0;
-    }
-    0
 }
 
-// How many bytes the displacement has.
+/// How many bytes the displacement has.
 pub fn displacement_length(m: u8, sib: u8) -> usize
     ensures { result ≡ displacement_length m sib }
 {
@@ -162,14 +105,14 @@ pub fn displacement_length(m: u8, sib: u8) -> usize
     }
 }
 
-// How many bytes "v" has.
+/// How many bytes "v" has.
 fn operand_size(narrow: bool) -> usize
     ensures { result ≡ operand_size narrow }
 {
     if narrow { 2 } else { 4 }
 }
 
-// How many bytes the immediate has.
+/// How many bytes the immediate has.
 pub fn immediate_length(rule: Immediate, narrow: bool, field: u8) -> usize
     ensures { result ≡ immediate_length rule narrow field }
 {

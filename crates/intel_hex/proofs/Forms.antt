@@ -2,14 +2,12 @@
 use mathlib.Core.Path.{◌≡◌, refl, ap, sym, ◌∙◌, subst}
 use mathlib.Core.Bool.{true}
 use mathlib.Core.List.{List, [], ◌∷◌, ◌++◌}
-use Prim.Native.Nat.{ℕ, suc, ◌+◌, ◌*◌, ◌<◌, ◌≤◌}
+use Prim.Native.Nat.{ℕ, suc, ◌+◌, ◌*◌, ◌<◌}
 use native.Mathlib.Omega.{arith}
 use lib.ListN.{length, get_or, take, drop, length-append}
 use lib.Seq.{take_at, get_or_at}
 use Rattle.intel_hex.specs.Records.{Spells, Record, in_order, Reads, reads, colon}
-use Rattle.intel_hex.specs.Reading.{pairs_in, is_end, byte_at, bytes_at, record_in, Formed, a_record, no_record}
-use Rattle.intel_hex.specs.declared.form.Form.{Form}
-use Rattle.intel_hex.proofs.Places.{pairs_long}
+use Rattle.intel_hex.specs.Reading.{pairs_in, is_end, byte_at, bytes_at, record_in}
 use Rattle.intel_hex.proofs.Spelling.{end_told, end_is, bytes_shift, bytes_length, bytes_more, spells_pairs, spells_end, spells_bytes, pairs_spell}
 
 -- the same parts make the same record
@@ -100,19 +98,3 @@ pub reads_end : {line : List ℕ} {r : Record} (n : ℕ) → Reads line r → n 
 reads_end {line} n is pairs =
     let s = reads_shown is in
     rw (pairs ∙ s.pairs) s.ends
-
--- the line of a record with so many data bytes is so long
-pub record_long : (line : List ℕ) (count : ℕ) → Reads line (record_in line count) → 11 + 2 * count ≤ length line
-unfolding record_in
-record_long line count is =
-    let pairs = (reads_shown is).pairs in
-    let long = pairs_long line (length (bytes_at line 9 count) + 5) (sym pairs) (omega arith) in
-    omega (arith, bytes_length line 9 count)
-
--- a line told a record is one
-pub formed_record : {line : List ℕ} {count : ℕ} → Formed line (Form.Record count) → (count ≡ byte_at line 1) × Reads line (record_in line count)
-formed_record (a_record is own) = (is, own)
-
--- a line told none is none
-pub formed_none : {line : List ℕ} → Formed line Form.Malformed → (r : Record) → Reads line r → ⊥
-formed_none (no_record none) = none

@@ -8,30 +8,41 @@ use native.Mathlib.Omega.{arith}
 use lib.Dec.{eqb}
 use lib.ListN.{length, get_or}
 use borrow.Author.Tests.{eqb-true, eqb-false}
+use Rattle.std.specs.Prelude.{Option, Result, Ok, Err, ⊤}
 use Rattle.intel_hex.specs.Records.{Record, in_order, Reads, total}
-use Rattle.intel_hex.specs.Files.{given_from, given_by, upper_of, given, Proper, of_data, of_end, of_upper, code_base, Within, given_before, fault_number, Clash}
+use Rattle.intel_hex.specs.Files.{given_from, given_by, upper_of, given, Proper, of_data, of_end, of_upper, code_base, Within, Clash}
 use Rattle.intel_hex.specs.Reading.{byte_at, bytes_at, record_in, Summed, Shows, Lays, laid, clash, Known, ending, rising, reaching, end_judged, upper_judged, Judges, sound, faulty, JudgesFrom}
 use Rattle.intel_hex.specs.declared.judging.File.{File}
-use Rattle.intel_hex.specs.declared.judging.Judged.{Judged}
+use Rattle.intel_hex.specs.declared.fault.Fault.{Fault as Refusal}
 use Rattle.intel_hex.proofs.Spelling.{byte_small, bytes_length}
 use Rattle.intel_hex.proofs.Giving.{given_back, given_forth, given_data, given_other, upper_set, upper_kept}
 use Rattle.intel_hex.proofs.Faults.{first_end, first_malformed, first_sum, first_type, first_outside, first_given, no_fault}
 use Rattle.intel_hex.proofs.Knowing.{known_quiet, known_end, known_data}
 
+-- what a result holds, and else another
+abbrev pub value_or : {A E : Type 0} → A → Result A E → A
+value_or other (Ok x) = x
+value_or other (Err e) = other
+
+-- the error of a result, and else another
+abbrev pub error_or : {A E : Type 0} → E → Result A E → E
+error_or other (Ok x) = other
+error_or other (Err e) = e
+
 -- a line after an end record
-pub judged_after_end : (size : ℕ) (file : File) (image line : List ℕ) → file.ended ≡ true → JudgesFrom size file image line (Judged.Faulty 36) image
-unfolding JudgesFrom fault_number
+pub judged_after_end : (size : ℕ) (file : File) (image : List (Option ℕ)) (line : List ℕ) → file.ended ≡ true → JudgesFrom size file image line (Err Refusal.AfterEnd) image
+unfolding JudgesFrom
 judged_after_end size file image line ended = λ records known. faulty (first_end size records line (known.ends ended))
 
-module _ (size : ℕ) (file : File) (image line : List ℕ) (unended : file.ended ≡ false) where
+module _ (size : ℕ) (file : File) (image : List (Option ℕ)) (line : List ℕ) (unended : file.ended ≡ false) where
   -- a line that is no record
-  pub judged_malformed : ((r : Record) → Reads line r → ⊥) → JudgesFrom size file image line (Judged.Faulty 30) image
-  unfolding JudgesFrom fault_number
+  pub judged_malformed : ((r : Record) → Reads line r → ⊥) → JudgesFrom size file image line (Err Refusal.Malformed) image
+  unfolding JudgesFrom
   judged_malformed none = λ records known. faulty (first_malformed size records line (known.unended unended) none)
 
   -- a record that adds up to something else
-  pub judged_sum : (r : Record) → Reads line r → (total (in_order r) % 256 ≡ 0 → ⊥) → JudgesFrom size file image line (Judged.Faulty 31) image
-  unfolding JudgesFrom fault_number
+  pub judged_sum : (r : Record) → Reads line r → (total (in_order r) % 256 ≡ 0 → ⊥) → JudgesFrom size file image line (Err Refusal.WrongSum) image
+  unfolding JudgesFrom
   judged_sum r is bad = λ records known. faulty (first_sum size records line (known.unended unended) is bad)
 
   module _ (count : ℕ) (so : Summed line count) where
@@ -40,13 +51,13 @@ module _ (size : ℕ) (file : File) (image line : List ℕ) (unended : file.ende
     own = record_in line count
 
     -- one that isn't proper
-    improper : (Proper own → ⊥) → JudgesFrom size file image line (Judged.Faulty 32) image
-    unfolding JudgesFrom fault_number
+    improper : (Proper own → ⊥) → JudgesFrom size file image line (Err Refusal.OtherType) image
+    unfolding JudgesFrom
     improper bad = λ records known. faulty (first_type size records line (known.unended unended) so.reads so.sums bad)
 
     -- one of another type
     pub judged_type : (byte_at line 7 ≡ 0 → ⊥) → (byte_at line 7 ≡ 1 → ⊥) → (byte_at line 7 ≡ 4 → ⊥)
-        → JudgesFrom size file image line (Judged.Faulty 32) image
+        → JudgesFrom size file image line (Err Refusal.OtherType) image
     unfolding record_in
     judged_type zero one four = improper (λ p. none p)
       where
@@ -58,7 +69,7 @@ module _ (size : ℕ) (file : File) (image line : List ℕ) (unended : file.ende
     -- a proper record that gives no byte has no fault, and this is known after it
     quiet : {after : File} → Proper own → ((upper : ℕ) → given_by upper own ≡ [])
         → ((records : List Record) → Known size records file image → Known size (own ∷ records) after image)
-        → JudgesFrom size file image line (Judged.Sound after) image
+        → JudgesFrom size file image line (Ok after) image
     unfolding JudgesFrom
     quiet proper silent more = λ records known.
         let none : (a b : ℕ) → Memᴰ (a, b) (given_by (upper_of records) own) → ⊥ = λ a b m. Memᴰ.not-nil (rw (silent (upper_of records)) at m) in
@@ -79,7 +90,7 @@ module _ (size : ℕ) (file : File) (image line : List ℕ) (unended : file.ende
         none (of_end e n) = sym long ∙ n
         none (of_upper e n) = absurd (omega arith)
 
-        go : (t : Bool) → eqb count 0 ≡ t → JudgesFrom size file image line (cond t (Judged.Sound (ending file)) (Judged.Faulty 32)) image
+        go : (t : Bool) → eqb count 0 ≡ t → JudgesFrom size file image line (cond t (Ok (ending file)) (Err Refusal.OtherType)) image
         go true e =
             quiet (of_end is (long ∙ eqb-true count 0 e)) (λ upper. given_other upper own (λ k. omega arith)) (λ records known. known_end known own is)
         go false e = improper (λ p. eqb-false count 0 e (none p))
@@ -101,7 +112,7 @@ module _ (size : ℕ) (file : File) (image line : List ℕ) (unended : file.ende
         half e = rw e (unfold bytes_at in refl)
 
         go : (t : Bool) → eqb count 2 ≡ t
-            → JudgesFrom size file image line (cond t (Judged.Sound (rising file (256 * byte_at line 9 + byte_at line 11))) (Judged.Faulty 32)) image
+            → JudgesFrom size file image line (cond t (Ok (rising file (256 * byte_at line 9 + byte_at line 11))) (Err Refusal.OtherType)) image
         go true e =
             let two_bytes = eqb-true count 2 e in
             quiet (of_upper is (long ∙ two_bytes)) (λ upper. given_other upper own (λ k. omega arith))
@@ -112,13 +123,13 @@ module _ (size : ℕ) (file : File) (image line : List ℕ) (unended : file.ende
 
     module _ (is : byte_at line 7 ≡ 0) where
       -- one of type 00 without data bytes
-      pub judged_empty : count ≡ 0 → file.upper < 65536 → JudgesFrom size file image line (Judged.Sound file) image
+      pub judged_empty : count ≡ 0 → JudgesFrom size file image line (Ok file) image
       unfolding record_in rising
-      judged_empty none small =
+      judged_empty none =
           quiet (of_data is) silent
           (λ records known.
           known_quiet known own file.upper (λ k. omega arith) (silent (upper_of records))
-          (known.upper ∙ sym (upper_kept (upper_of records) own (λ k. omega arith))) small)
+          (known.upper ∙ sym (upper_kept (upper_of records) own (λ k. omega arith))) known.half)
         where
           silent : (upper : ℕ) → given_by upper own ≡ []
           silent upper = given_data upper own is ∙ rw none (unfold bytes_at given_from in refl)
@@ -135,8 +146,8 @@ module _ (size : ℕ) (file : File) (image line : List ℕ) (unended : file.ende
           ∙ ap (λ (u : ℕ). given_from (u * 65536 + (256 * byte_at line 3 + byte_at line 5)) (bytes_at line 9 count)) (sym known.upper)
 
       -- one with a byte outside
-      pub judged_outside : (j : ℕ) → j < count → (Within size (start + j) → ⊥) → JudgesFrom size file image line (Judged.Faulty 33) image
-      unfolding JudgesFrom fault_number record_in
+      pub judged_outside : (j : ℕ) → j < count → (Within size (start + j) → ⊥) → JudgesFrom size file image line (Err Refusal.Outside) image
+      unfolding JudgesFrom record_in
       judged_outside j inside bad = λ records known.
           faulty
           (first_outside size records line (known.unended unended) so.reads so.sums (of_data is) (start + j) (get_or (bytes_at line 9 count) j 0)
@@ -159,8 +170,8 @@ module _ (size : ℕ) (file : File) (image line : List ℕ) (unended : file.ende
             record { from = omega arith; inside = omega arith; below = omega arith }
 
         -- an address that was given before is its first fault
-        clashes : {after : List ℕ} (records : List Record) → Known size records file image → Clash new (given records)
-            → Judges size records line (Judged.Faulty (fault_number given_before)) after
+        clashes : {after : List (Option ℕ)} (records : List Record) → Known size records file image → Clash new (given records)
+            → Judges size records line (Err Refusal.GivenBefore) after
         unfolding Clash record_in
         clashes records known (a, b, c, m, old) =
             faulty
@@ -168,8 +179,8 @@ module _ (size : ℕ) (file : File) (image line : List ℕ) (unended : file.ende
             (λ x y n. new_within x y (rw (own_new records known) at n)) a b c (rw (own_new records known) m) old)
 
         -- without one it has no fault
-        lies : {after : List ℕ} (records : List Record) → Known size records file image → 0 < count → (Clash new (given records) → ⊥)
-            → Shows (new ++ given records) after → Judges size records line (Judged.Sound (reaching file (from + count))) after
+        lies : {after : List (Option ℕ)} (records : List Record) → Known size records file image → 0 < count → (Clash new (given records) → ⊥)
+            → Shows (new ++ given records) after → Judges size records line (Ok (reaching file (from + count))) after
         unfolding Clash record_in
         lies {after} records known some fresh shows =
             sound so.reads
@@ -182,21 +193,21 @@ module _ (size : ℕ) (file : File) (image line : List ℕ) (unended : file.ende
             long = bytes_length line 9 count
 
         -- one with an address given before
-        pub judged_clash : {after : List ℕ} (told : Bool) → told ≡ false → ((bytes : List (ℕ × ℕ)) → Shows bytes image → Lays new bytes told after)
-            → JudgesFrom size file image line (Judged.Faulty 34) after
-        unfolding JudgesFrom fault_number record_in
-        judged_clash {after} told repeats lays = λ records known. go records known (rw repeats at (lays (given records) known.shows))
+        pub judged_clash : {after : List (Option ℕ)} (why : Refusal) → ((bytes : List (ℕ × ℕ)) → Shows bytes image → Lays new bytes (Err why) after)
+            → JudgesFrom size file image line (Err why) after
+        unfolding JudgesFrom record_in
+        judged_clash {after} why lays = λ records known. go records known (lays (given records) known.shows)
           where
-            go : (records : List Record) → Known size records file image → Lays new (given records) false after
-                → Judges size records line (Judged.Faulty (fault_number given_before)) after
+            go : {why : Refusal} (records : List Record) → Known size records file image → Lays new (given records) (Err why) after
+                → Judges size records line (Err why) after
             go records known (clash c) = clashes records known c
 
         -- one whose bytes are laid
-        pub judged_laid : {after : List ℕ} (told : Bool) → told ≡ true → 0 < count → ((bytes : List (ℕ × ℕ)) → Shows bytes image → Lays new bytes told after)
-            → JudgesFrom size file image line (Judged.Sound (reaching file (from + count))) after
+        pub judged_laid : {after : List (Option ℕ)} (told : Result ⊤ Refusal) → told ≡ Ok tt → 0 < count → ((bytes : List (ℕ × ℕ)) → Shows bytes image → Lays new bytes told after)
+            → JudgesFrom size file image line (Ok (reaching file (from + count))) after
         unfolding JudgesFrom
         judged_laid {after} told all some lays = λ records known. go records known (rw all at (lays (given records) known.shows))
           where
-            go : (records : List Record) → Known size records file image → Lays new (given records) true after
-                → Judges size records line (Judged.Sound (reaching file (from + count))) after
+            go : (records : List Record) → Known size records file image → Lays new (given records) (Ok tt) after
+                → Judges size records line (Ok (reaching file (from + count))) after
             go records known (laid fresh shows) = lies records known some fresh shows

@@ -9,6 +9,7 @@ use native.Mathlib.Omega.{arith}
 use lib.Dec.{leb}
 use lib.ListN.{length, get_or}
 use borrow.Author.Tests.{leb-true, leb-false}
+use Rattle.std.specs.Prelude.{Option}
 use Rattle.intel_hex.specs.Records.{Record}
 use Rattle.intel_hex.specs.Files.{given_from, given_by, upper_after, upper_of, given, Ended, code_base}
 use Rattle.intel_hex.specs.Reading.{Shows, Known, ending, rising, reaching}
@@ -16,7 +17,7 @@ use Rattle.intel_hex.specs.declared.judging.File.{File}
 use Rattle.intel_hex.proofs.Giving.{given_back, given_forth, given_data, given_other, upper_kept, ended_more, still_open}
 
 -- nothing was read yet
-pub known_none : (size : ℕ) {image : List ℕ} → Shows [] image → Known size [] (record { ended = false; upper = 0; top = 0 }) image
+pub known_none : (size : ℕ) {image : List (Option ℕ)} → Shows [] image → Known size [] (record { ended = false; upper = 0; top = 0 }) image
 unfolding Ended upper_of given
 known_none size shows =
     record {
@@ -31,7 +32,7 @@ known_none size shows =
       shows = shows;
     }
 
-module _ {size : ℕ} {records : List Record} {file : File} {image : List ℕ} (known : Known size records file image) (r : Record) where
+module _ {size : ℕ} {records : List Record} {file : File} {image : List (Option ℕ)} (known : Known size records file image) (r : Record) where
   -- a record that gives no byte: whether an end record came and the upper half are all that may change
   known_silent : (ended : Bool) (upper : ℕ) → given_by (upper_of records) r ≡ [] → (ended ≡ true → Ended (r ∷ records))
       → (ended ≡ false → Ended (r ∷ records) → ⊥) → upper ≡ upper_after (upper_of records) r → upper < 65536
@@ -66,7 +67,7 @@ module _ {size : ℕ} {records : List Record} {file : File} {image : List ℕ} (
       (λ e. absurd (false≢true (sym e))) (known.upper ∙ sym (upper_kept (upper_of records) r (λ e. omega arith))) known.half
 
 -- a record of type 00 whose bytes are laid
-pub known_data : {size : ℕ} {records : List Record} {file : File} {image after : List ℕ} (r : Record) (from : ℕ) → Known size records file image
+pub known_data : {size : ℕ} {records : List Record} {file : File} {image after : List (Option ℕ)} (r : Record) (from : ℕ) → Known size records file image
     → r.kind ≡ 0 → upper_of records * 65536 + (256 * r.high + r.low) ≡ code_base + from → 0 < length r.bytes
     → from + length r.bytes ≤ 65536 → from + length r.bytes ≤ size
     → Shows (given_from (code_base + from) r.bytes ++ given records) after

@@ -1,99 +1,49 @@
--- The lines of a text, from places in it. Assumes nothing.
-use mathlib.Core.Path.{◌≡◌, refl, ap, sym, ◌∙◌}
+-- The first line of a text, as it is split off. Assumes nothing.
+use mathlib.Core.Path.{◌≡◌, refl, ap, ◌∙◌}
+use mathlib.Core.Bool.{Bool, true, false}
 use mathlib.Core.List.{List, [], ◌∷◌, ◌++◌}
-use Prim.Native.Nat.{ℕ, suc, ◌+◌, ◌-◌, ◌<◌, ◌≤◌}
+use Prim.Native.Nat.{ℕ, zero, suc, ◌+◌, ◌<◌, min}
 use native.Mathlib.Numerals.{add-one}
 use native.Mathlib.Omega.{arith}
-use lib.ListN.{length, get_or, take, drop, length-take, length-drop, drop_of_length-le}
-use lib.Seq.{drop-cons, take-suc, get_or-drop}
-use borrow.Author.Tests.{eq-eqb, ne_eqb}
+use denote.Param.Members.{Mut, Called}
+use denote.Ref.{Bor}
+use lib.Dec.{eqb}
+use lib.ListN.{length, get_or, take, drop}
+use Rattle.std.specs.Fn.{ComputesKey}
+use Rattle.std.specs.List.{IsFirstMatchOrLen}
+use Rattle.std.proofs.lemmas.Fn.{always_returns_same}
 use Rattle.intel_hex.specs.Lines.{LF, before, lines_of}
-use Rattle.intel_hex.specs.Reading.{LineTo}
 
--- bytes put before the first of some lines
-unfoldable pub onto : List ℕ → List (List ℕ) → List (List ℕ)
-onto [] lines = lines
-onto (b ∷ bytes) lines = before b (onto bytes lines)
+-- a line goes up to its LF, or to the end of the text
+up_to : (text : List ℕ) (i : ℕ) → 0 < length text → ((k : ℕ) → k < i → eqb (get_or text k 0) LF ≡ false)
+    → (i < length text → eqb (get_or text i 0) LF ≡ true) → lines_of text ≡ take (suc i) text ∷ lines_of (drop (suc i) text)
+unfolding lines_of before
+up_to [] i some none hit = absurd (omega arith)
+up_to (b ∷ text) zero some none hit = rw (hit some) refl
+up_to (b ∷ []) (suc i) some none hit = rw (none 0 (omega arith)) refl
+up_to (b ∷ x ∷ text) (suc i) some none hit =
+    rw (none 0 (omega arith))
+    (ap (before b) (up_to (x ∷ text) i (omega arith) (λ k h. none (suc k) (omega arith)) (λ h. hit (omega arith))))
 
--- one byte more
-onto_more : (bytes : List ℕ) (b : ℕ) (lines : List (List ℕ)) → onto (bytes ++ (b ∷ [])) lines ≡ onto bytes (before b lines)
-unfolding onto
-onto_more [] b lines = refl
-onto_more (x ∷ bytes) b lines = ap (before x) (onto_more bytes b lines)
+-- two parts of a text, by the length of the first
+parts : (first rest : List ℕ) (n : ℕ) → length first ≡ min n (length (first ++ rest)) → (take n (first ++ rest) ≡ first) × (drop n (first ++ rest) ≡ rest)
+parts [] [] zero h = (refl, refl)
+parts [] [] (suc n) h = (refl, refl)
+parts [] (a ∷ rest) zero h = (refl, refl)
+parts [] (a ∷ rest) (suc n) h = absurd (omega arith)
+parts (b ∷ first) rest zero h = absurd (omega arith)
+parts (b ∷ first) rest (suc n) h =
+    let (taken, left) = parts first rest n (omega arith) in
+    (ap (λ (l : List ℕ). b ∷ l) taken, left)
 
--- before a line that is already there
-onto_line : (bytes line : List ℕ) (lines : List (List ℕ)) → onto bytes (line ∷ lines) ≡ (bytes ++ line) ∷ lines
-unfolding onto before
-onto_line [] line lines = refl
-onto_line (x ∷ bytes) line lines = ap (before x) (onto_line bytes line lines)
-
--- before no line
-onto_none : (bytes : List ℕ) → 0 < length bytes → onto bytes [] ≡ bytes ∷ []
-unfolding onto before
-onto_none [] some = absurd (omega arith)
-onto_none (x ∷ []) some = refl
-onto_none (x ∷ y ∷ bytes) some = ap (before x) (onto_none (y ∷ bytes) (omega arith))
-
--- no LF stands between two places
-pub record Lining (text : List ℕ) (start i : ℕ) : Type 0 where
-  pub from : start ≤ i
-  pub inside : i ≤ length text
-  pub parts : lines_of (drop start text) ≡ onto (take (i - start) (drop start text)) (lines_of (drop i text))
-
-pub line_begins : (text : List ℕ) (start : ℕ) → start < length text → Lining text start start
-unfolding onto
-line_begins text start h =
-    let none : start - start ≡ 0 = omega arith in
-    record { from = omega arith; inside = omega arith; parts = rw none }
-
-module _ {text : List ℕ} {start i : ℕ} (so : Lining text start i) where
-  -- the bytes up to the next one
-  one_more : i < length text → take (suc i - start) (drop start text) ≡ take (i - start) (drop start text) ++ (get_or text i 0 ∷ [])
-  one_more h =
-      let from = so.from in
-      let next : suc i - start ≡ suc (i - start) = omega arith in
-      let here : start + (i - start) ≡ i = omega arith in
-      let last : get_or (drop start text) (i - start) 0 ≡ get_or text i 0 = get_or-drop start text (i - start) 0 ∙ ap (λ (k : ℕ). get_or text k 0) here in
-      rw (next, take-suc (drop start text) (i - start) 0 (rw (length-drop start text) (omega arith)), last)
-
-  -- past any other byte
-  pub line_goes : i < length text → (get_or text i 0 ≡ LF → ⊥) → Lining text start (i + 1)
-  unfolding lines_of
-  line_goes h other =
-      let from = so.from in
-      record {
-        from = omega arith;
-        inside = omega arith;
-        parts =
-            so.parts
-            ∙ rw (add-one i, one_more h, drop-cons text i 0 h, ne_eqb _ _ other)
-            (sym (onto_more (take (i - start) (drop start text)) (get_or text i 0) (lines_of (drop (suc i) text))));
-      }
-
-  -- an LF ends the line
-  pub line_stops : i < length text → get_or text i 0 ≡ LF → LineTo text start (i + 1)
-  unfolding lines_of
-  line_stops h is =
-      let from = so.from in
-      record {
-        some = omega arith;
-        inside = omega arith;
-        parts =
-            so.parts
-            ∙ rw (add-one i, one_more h, drop-cons text i 0 h, eq-eqb _ _ is)
-            (onto_line (take (i - start) (drop start text)) (get_or text i 0 ∷ []) (lines_of (drop (suc i) text)));
-      }
-
-  -- so does the text
-  pub line_ends : start < length text → length text ≤ i → LineTo text start i
-  unfolding lines_of
-  line_ends some h =
-      let inside = so.inside in
-      record {
-        some = omega arith;
-        inside = inside;
-        parts =
-            so.parts
-            ∙ rw (drop_of_length-le text h)
-            (onto_none (take (i - start) (drop start text)) (rw (length-take (i - start) (drop start text), length-drop start text) (omega arith)));
-      }
+module _ {F : Type 0} (g : Mut F (Bor ℕ × Unit {0}) Bool) where
+  -- what is split off behind the first LF is the first line
+  pub first_line : (text line rest : List ℕ) (f f' : F)
+      → ((a : Bor ℕ × Unit {0}) (r : Bool) (e : F) → Called g f a r e → (r ≡ eqb a.0.now LF) × (e ≡ f))
+      → text ≡ line ++ rest
+      → ((i : ℕ) × (length line ≡ min (i + 1) (length text)) × ((p : ℕ → Bool) → ComputesKey g p f → ComputesKey g p f' × IsFirstMatchOrLen p text i))
+      → 0 < length text → lines_of text ≡ line ∷ lines_of rest
+  first_line text line rest f f' says split (i, long, found) some =
+      let (kept, (none, hit)) = found (λ b. eqb b LF) (always_returns_same g (λ a r. r ≡ eqb a.0.now LF) f says) in
+      let (taken, left) = parts line rest (suc i) (rw (add-one i, split) at long) in
+      up_to text i some (λ k h. none k 0 (omega arith) h) (λ h. hit h 0) ∙ rw (split, taken, left) refl

@@ -10,7 +10,8 @@ use lib.Seq.{ext_get_or}
 use Rattle.text.proofs.Writing.{within}
 use Rattle.intel_hex.specs.Lines.{lines_of}
 use Rattle.intel_hex.specs.Records.{Record}
-use Rattle.intel_hex.specs.Files.{given_by, upper_of, given, Ended, code_base, Within, Fault, malformed, wrong_sum, other_type, outside, given_before, after_end, fault_number, Has, order, First, here, next, Stand, none, Holds, Outcome, refused, no_end, no_data, read}
+use Rattle.intel_hex.specs.Files.{given_by, upper_of, given, Ended, code_base, Within, Fault, malformed, wrong_sum, other_type, outside, given_before, after_end, fault_number, Has, order, First, here, next, Stand, none, Holds, Outcome, refused, no_end, no_data, read, refusal_number}
+use Rattle.intel_hex.specs.declared.fault.Fault.{Fault as Refusal}
 use Rattle.intel_hex.proofs.Forms.{reads_unique}
 use Rattle.intel_hex.proofs.Giving.{given_or_not}
 
@@ -148,6 +149,17 @@ fault_numbers other_type = (omega arith, omega arith)
 fault_numbers outside = (omega arith, omega arith)
 fault_numbers given_before = (omega arith, omega arith)
 fault_numbers after_end = (omega arith, omega arith)
+
+-- a refusal's number is one of 30 to 37
+pub refusal_numbers : (fault : Refusal) → (30 ≤ refusal_number fault) × (refusal_number fault ≤ 37)
+refusal_numbers Refusal.Malformed = (omega arith, omega arith)
+refusal_numbers Refusal.WrongSum = (omega arith, omega arith)
+refusal_numbers Refusal.OtherType = (omega arith, omega arith)
+refusal_numbers Refusal.Outside = (omega arith, omega arith)
+refusal_numbers Refusal.GivenBefore = (omega arith, omega arith)
+refusal_numbers Refusal.NoEnd = (omega arith, omega arith)
+refusal_numbers Refusal.AfterEnd = (omega arith, omega arith)
+refusal_numbers Refusal.NoData = (omega arith, omega arith)
 
 -- an outcome with the number 0 has some bytes of code, within the area and not above 0001FFFFh
 sized : {text area : List ℕ} {number n : ℕ} {after : List ℕ} → Outcome text area number n after → number ≡ 0

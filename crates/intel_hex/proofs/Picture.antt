@@ -1,38 +1,54 @@
 -- The image of the code while a file is read, and the code area that it is copied to. Assumes nothing.
-use mathlib.Core.Path.{◌≡◌, refl, ap, ◌∙◌}
+use mathlib.Core.Path.{◌≡◌, refl, ap, sym, ◌∙◌}
 use mathlib.Core.Logic.{◌⊎◌, inl, inr, ⊎_elim}
 use mathlib.Core.List.Memᴰ
 use mathlib.Core.List.{List, [], ◌∷◌, ◌++◌, Memᴰ}
-use mathlib.Core.Bool.{true, false}
-use Prim.Native.Nat.{ℕ, suc, ◌+◌, ◌-◌, ◌*◌, ◌%◌, ◌<◌, ◌≤◌}
+use mathlib.Core.Bool.{false, false≢true}
+use Prim.Native.Nat.{ℕ, zero, suc, ◌+◌, ◌-◌, ◌*◌, ◌<◌}
 use native.Mathlib.Decide.{ℕ_discrete}
 use native.Mathlib.Numerals.{add-one}
 use native.Mathlib.Omega.{arith}
-use lib.ListN.{length, get_or, set, replicate, length-set, length-replicate, get_or-replicate}
+use lib.ListN.{length, get_or, set, replicate, length-set, length-replicate}
 use lib.Seq.{get_or-set_same, get_or-set_other}
+use Rattle.std.specs.Prelude.{Option, None, Some, is_some, Ok, Err}
 use Rattle.intel_hex.specs.Files.{given_from, code_base, Clash}
-use Rattle.intel_hex.specs.Reading.{byte_at, bytes_at, Shows, Lays, laid, clash, Copied}
+use Rattle.intel_hex.specs.Reading.{byte_at, bytes_at, Shows, Lays, laid, clash}
+use Rattle.intel_hex.specs.declared.fault.Fault.{Fault as Refusal}
 use Rattle.intel_hex.proofs.Giving.{given_or_not, given_back, given_forth}
-use Rattle.intel_hex.proofs.Spelling.{byte_small, bytes_more, bytes_length}
+use Rattle.intel_hex.proofs.Spelling.{bytes_more, bytes_length}
+
+-- a cell of a blank image, or beyond
+blank_cell : (n i : ℕ) → get_or (replicate {A = Option ℕ} n None) i None ≡ None
+blank_cell zero i = refl
+blank_cell (suc n) zero = refl
+blank_cell (suc n) (suc i) = blank_cell n i
 
 -- a blank image shows no byte
-pub blank_shows : (image : List ℕ) → image ≡ replicate 65536 0x90 → Shows [] image
+pub blank_shows : (image : List (Option ℕ)) → image ≡ replicate 65536 None → Shows [] image
 blank_shows image e =
     record {
-      long = rw e (length-replicate {A = ℕ} 65536 0x90);
+      long = rw e (length-replicate {A = Option ℕ} 65536 None);
       from = λ a b m. absurd (Memᴰ.not-nil m);
-      small = λ a b m. absurd (Memᴰ.not-nil m);
       cell = λ a b m. absurd (Memᴰ.not-nil m);
-      blank = λ i h none. rw e (get_or-replicate {A = ℕ} 65536 i 0x90 0 h);
+      blank = λ i none. rw e (blank_cell 65536 i);
     }
 
+-- a cell is not both empty and full
+none_some : {b : ℕ} → None ≡ Some b → ⊥
+none_some e = false≢true (ap is_some e)
+
+-- a cell that is not full is empty
+pub none_is : (cell : Option ℕ) → is_some cell ≡ false → cell ≡ None
+none_is None h = refl
+none_is (Some b) h = absurd (false≢true (sym h))
+
 -- so many data bytes of a line are laid beside others
-pub record Laying (line : List ℕ) (from : ℕ) (bytes : List (ℕ × ℕ)) (k : ℕ) (image : List ℕ) : Type 0 where
+pub record Laying (line : List ℕ) (from : ℕ) (bytes : List (ℕ × ℕ)) (k : ℕ) (image : List (Option ℕ)) : Type 0 where
   pub fresh : Clash (given_from (code_base + from) (bytes_at line 9 k)) bytes → ⊥
   pub shows : Shows (given_from (code_base + from) (bytes_at line 9 k) ++ bytes) image
 
 -- no data byte is laid yet
-pub laying_none : (line : List ℕ) (from : ℕ) {bytes : List (ℕ × ℕ)} {image : List ℕ} → Shows bytes image → Laying line from bytes 0 image
+pub laying_none : (line : List ℕ) (from : ℕ) {bytes : List (ℕ × ℕ)} {image : List (Option ℕ)} → Shows bytes image → Laying line from bytes 0 image
 unfolding Clash bytes_at given_from
 laying_none line from shows = record { fresh = λ (a, b, c, m, old). absurd (Memᴰ.not-nil m); shows = shows }
 
@@ -48,7 +64,7 @@ given_more start (x ∷ bytes) b =
     (given_more (suc start) bytes b ∙ ap (λ (a : ℕ). given_from (suc start) bytes ++ ((a, b) ∷ [])) there)
 
 -- an image with one byte more: the same bytes are given, and that one
-module _ {old all : List (ℕ × ℕ)} {image : List ℕ} (shows : Shows old image) (i b : ℕ) (inside : i < 65536) (small : b < 256)
+module _ {old all : List (ℕ × ℕ)} {image : List (Option ℕ)} (shows : Shows old image) (i b : ℕ) (inside : i < 65536)
     (free : (c : ℕ) → Memᴰ (code_base + i, c) old → ⊥)
     (split : (a c : ℕ) → Memᴰ (a, c) all → ((a ≡ code_base + i) × (c ≡ b)) ⊎ Memᴰ (a, c) old)
     (last : Memᴰ (code_base + i, b) all) (kept : (a c : ℕ) → Memᴰ (a, c) old → Memᴰ (a, c) all) where
@@ -59,28 +75,27 @@ module _ {old all : List (ℕ × ℕ)} {image : List ℕ} (shows : Shows old ima
       let here : a ≡ code_base + i = omega arith in
       free c (rw here at m)
 
-  shows_more : Shows all (set image i (0x100 + b))
+  shows_more : Shows all (set image i (Some b))
   shows_more =
       let long = shows.long in
       record {
-        long = length-set image i (0x100 + b) ∙ long;
+        long = length-set image i (Some b) ∙ long;
         from = λ a c m. ⊎_elim (λ (e, f). omega arith) (λ o. shows.from a c o) (split a c m);
-        small = λ a c m. ⊎_elim (λ (e, f). omega arith) (λ o. shows.small a c o) (split a c m);
-        cell = λ a c m. ⊎_elim (λ (e, f). new a c e f) (λ o. get_or-set_other image i (a - code_base) (0x100 + b) 0 (elsewhere a c o) ∙ shows.cell a c o) (split a c m);
-        blank = λ j h none. blank j h none (ℕ_discrete j i);
+        cell = λ a c m. ⊎_elim (λ (e, f). new a c e f) (λ o. get_or-set_other image i (a - code_base) (Some b) None (elsewhere a c o) ∙ shows.cell a c o) (split a c m);
+        blank = λ j none. blank j none (ℕ_discrete j i);
       }
     where
-      new : (a c : ℕ) → a ≡ code_base + i → c ≡ b → get_or (set image i (0x100 + b)) (a - code_base) 0 ≡ 0x100 + c
+      new : (a c : ℕ) → a ≡ code_base + i → c ≡ b → get_or (set image i (Some b)) (a - code_base) None ≡ Some c
       new a c e f =
           let here : a - code_base ≡ i = omega arith in
           let long = shows.long in
-          rw (here, f) (get_or-set_same image i (0x100 + b) 0 (omega arith))
+          rw (here, f) (get_or-set_same image i (Some b) None (omega arith))
 
-      blank : (j : ℕ) → j < 65536 → ((c : ℕ) → Memᴰ (code_base + j, c) all → ⊥) → Dec (j ≡ i) → get_or (set image i (0x100 + b)) j 0 ≡ 0x90
-      blank j h none (yes e) = absurd (none b (rw e last))
-      blank j h none (no other) = get_or-set_other image i j (0x100 + b) 0 other ∙ shows.blank j h (λ c m. none c (kept (code_base + j) c m))
+      blank : (j : ℕ) → ((c : ℕ) → Memᴰ (code_base + j, c) all → ⊥) → Dec (j ≡ i) → get_or (set image i (Some b)) j None ≡ None
+      blank j none (yes e) = absurd (none b (rw e last))
+      blank j none (no other) = get_or-set_other image i j (Some b) None other ∙ shows.blank j (λ c m. none c (kept (code_base + j) c m))
 
-module _ {line : List ℕ} {from k : ℕ} {bytes : List (ℕ × ℕ)} {image : List ℕ} (so : Laying line from bytes k image) where
+module _ {line : List ℕ} {from k : ℕ} {bytes : List (ℕ × ℕ)} {image : List (Option ℕ)} (so : Laying line from bytes k image) where
   -- the data bytes laid so far
   abbrev laid_yet : List (ℕ × ℕ)
   laid_yet = given_from (code_base + from) (bytes_at line 9 k)
@@ -92,16 +107,16 @@ module _ {line : List ℕ} {from k : ℕ} {bytes : List (ℕ × ℕ)} {image : L
       omega (arith, bytes_length line 9 k)
 
   -- a cell that is not given
-  cell_free : from + k < 65536 → get_or image (from + k) 0 < 0x100 → (c : ℕ) → Memᴰ (code_base + (from + k), c) (laid_yet ++ bytes) → ⊥
-  cell_free inside low c m =
+  cell_free : get_or image (from + k) None ≡ None → (c : ℕ) → Memᴰ (code_base + (from + k), c) (laid_yet ++ bytes) → ⊥
+  cell_free free c m =
       let place : code_base + (from + k) - code_base ≡ from + k = omega arith in
-      omega (arith, rw place at (so.shows.cell (code_base + (from + k)) c m))
+      none_some (sym free ∙ rw place at (so.shows.cell (code_base + (from + k)) c m))
 
   -- one with the byte of an address given before
-  cell_given : from + k < 65536 → 0x100 ≤ get_or image (from + k) 0 → (c : ℕ) × Memᴰ (code_base + (from + k), c) bytes
-  cell_given inside high =
+  cell_given : (get_or image (from + k) None ≡ None → ⊥) → (c : ℕ) × Memᴰ (code_base + (from + k), c) bytes
+  cell_given taken =
       ⊎_elim (λ (c, m). ⊎_elim (λ n. let h = yet_before (code_base + (from + k)) c n in absurd (omega arith)) (λ n. (c, n)) (Memᴰ.append_cases laid_yet m))
-      (λ none. absurd (omega (arith, so.shows.blank (from + k) inside none)))
+      (λ none. absurd (taken (so.shows.blank (from + k) none)))
       (given_or_not (code_base + (from + k)) (laid_yet ++ bytes))
 
   -- the data bytes with the next one
@@ -112,23 +127,20 @@ module _ {line : List ℕ} {from k : ℕ} {bytes : List (ℕ × ℕ)} {image : L
       ∙ ap (λ (a : ℕ). laid_yet ++ ((a, byte_at line (9 + 2 * k)) ∷ [])) place
 
   -- a byte more is laid
-  pub laying_more : from + k < 65536 → get_or image (from + k) 0 < 0x100 → Laying line from bytes (k + 1) (set image (from + k) (0x100 + byte_at line (9 + 2 * k)))
+  pub laying_more : from + k < 65536 → get_or image (from + k) None ≡ None → Laying line from bytes (k + 1) (set image (from + k) (Some (byte_at line (9 + 2 * k))))
   unfolding Clash
-  laying_more inside low =
+  laying_more inside free =
       rw (add-one k)
       record {
         fresh = λ (a, b, c, m, old). fresh a b c m old;
         shows =
-            shows_more so.shows (from + k) (byte_at line (9 + 2 * k)) inside small (cell_free inside low) split
+            shows_more so.shows (from + k) (byte_at line (9 + 2 * k)) inside (cell_free free) split
             (Memᴰ.append_left bytes last)
             (λ a c m. ⊎_elim (λ n. Memᴰ.append_left bytes (kept a c n)) (λ n. Memᴰ.append_right (given_from (code_base + from) (bytes_at line 9 (suc k))) n) (Memᴰ.append_cases laid_yet m));
       }
     where
       next : ℕ × ℕ
       next = (code_base + (from + k), byte_at line (9 + 2 * k))
-
-      small : byte_at line (9 + 2 * k) < 256
-      small = byte_small line (9 + 2 * k)
 
       last : Memᴰ next (given_from (code_base + from) (bytes_at line 9 (suc k)))
       last = rw next_last (Memᴰ.append_right laid_yet (Memᴰ.head refl))
@@ -145,7 +157,7 @@ module _ {line : List ℕ} {from k : ℕ} {bytes : List (ℕ × ℕ)} {image : L
 
       fresh : (a b c : ℕ) → Memᴰ (a, b) (given_from (code_base + from) (bytes_at line 9 (suc k))) → Memᴰ (a, c) bytes → ⊥
       fresh a b c m old =
-          ⊎_elim (λ (e, f). cell_free inside low c (Memᴰ.append_right laid_yet (rw e at old))) (λ n. so.fresh (a, b, c, n, old)) (either a b m)
+          ⊎_elim (λ (e, f). cell_free free c (Memᴰ.append_right laid_yet (rw e at old))) (λ n. so.fresh (a, b, c, n, old)) (either a b m)
 
       split : (a c : ℕ) → Memᴰ (a, c) (given_from (code_base + from) (bytes_at line 9 (suc k)) ++ bytes)
           → ((a ≡ code_base + (from + k)) × (c ≡ byte_at line (9 + 2 * k))) ⊎ Memᴰ (a, c) (laid_yet ++ bytes)
@@ -154,33 +166,14 @@ module _ {line : List ℕ} {from k : ℕ} {bytes : List (ℕ × ℕ)} {image : L
           (Memᴰ.append_cases (given_from (code_base + from) (bytes_at line 9 (suc k))) m)
 
   -- an address was given before
-  pub laying_clash : (count : ℕ) → k < count → from + k < 65536 → 0x100 ≤ get_or image (from + k) 0
-      → Lays (given_from (code_base + from) (bytes_at line 9 count)) bytes false image
+  pub laying_clash : (count : ℕ) → k < count → (get_or image (from + k) None ≡ None → ⊥)
+      → Lays (given_from (code_base + from) (bytes_at line 9 count)) bytes (Err Refusal.GivenBefore) image
   unfolding Clash
-  laying_clash count more inside high =
-      let (c, old) = cell_given inside high in
+  laying_clash count more taken =
+      let (c, old) = cell_given taken in
       let place : code_base + from + k ≡ code_base + (from + k) = omega arith in
       clash (code_base + (from + k), get_or (bytes_at line 9 count) k 0, c, rw place at (given_forth (code_base + from) (bytes_at line 9 count) k (omega (arith, bytes_length line 9 count))), old)
 
   -- all are laid
-  pub laying_all : (count : ℕ) → k ≡ count → Lays (given_from (code_base + from) (bytes_at line 9 count)) bytes true image
+  pub laying_all : (count : ℕ) → k ≡ count → Lays (given_from (code_base + from) (bytes_at line 9 count)) bytes (Ok tt) image
   laying_all count e = rw (← e) (laid so.fresh so.shows)
-
--- nothing is copied yet
-pub copied_none : (image area : List ℕ) → Copied image area 0 area
-copied_none image area = record { long = refl; below = λ i h. absurd (omega arith); beyond = λ i h. refl }
-
--- a byte more is copied
-pub copied_more : {image area after : List ℕ} {i : ℕ} → Copied image area i after → i < length area
-    → Copied image area (i + 1) (set after i (get_or image i 0 % 256))
-copied_more {image} {area} {after} {i} so h =
-    let long = so.long in
-    record {
-      long = length-set after i (get_or image i 0 % 256) ∙ long;
-      below = λ j less. below j less (ℕ_discrete j i);
-      beyond = λ j more. get_or-set_other after i j (get_or image i 0 % 256) 0 (λ e. omega arith) ∙ so.beyond j (omega arith);
-    }
-  where
-    below : (j : ℕ) → j < i + 1 → Dec (j ≡ i) → get_or (set after i (get_or image i 0 % 256)) j 0 ≡ get_or image j 0 % 256
-    below j less (yes e) = let long = so.long in rw e (get_or-set_same after i (get_or image i 0 % 256) 0 (omega arith))
-    below j less (no other) = get_or-set_other after i j (get_or image i 0 % 256) 0 other ∙ so.below j (omega arith)

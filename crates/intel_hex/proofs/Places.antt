@@ -1,42 +1,34 @@
 -- Places in a line: the pairs of digits from one on, and what ends the line there. Assumes nothing.
-use mathlib.Core.Path.{◌≡◌, refl, sym, ◌∙◌}
-use mathlib.Core.Bool.{Bool, true, false, cond, ◌&&◌}
+use mathlib.Core.Path.{◌≡◌, refl}
+use mathlib.Core.Bool.{Bool, true, false, cond}
 use mathlib.Core.List.{List, [], ◌∷◌}
-use Prim.Native.Nat.{ℕ, suc, ◌+◌, ◌-◌, ◌*◌, ◌<◌, ◌≤◌}
+use Prim.Native.Nat.{ℕ, suc, ◌+◌, ◌*◌, ◌<◌, ◌≤◌}
 use native.Mathlib.Omega.{arith}
-use lib.Dec.{eqb}
 use lib.ListN.{length, get_or, drop, length-drop}
-use lib.Seq.{drop-cons}
+use borrow.Author.Tests.{eq-eqb, ne_eqb}
 use Rattle.intel_hex.specs.Lines.{LF, CR}
 use Rattle.intel_hex.specs.Reading.{is_pair, pairs_in, is_end}
 
--- two bytes, and what follows them
-two_cons : (line : List ℕ) (i : ℕ) → suc i < length line → drop i line ≡ get_or line i 0 ∷ get_or line (suc i) 0 ∷ drop (suc (suc i)) line
-two_cons line i h = drop-cons line i 0 (omega arith) ∙ rw (drop-cons line (suc i) 0 h)
-
--- a pair, and those after it
-pub pairs_go : (line : List ℕ) (i : ℕ) → suc i < length line → is_pair (get_or line i 0) (get_or line (suc i) 0) ≡ true
-    → pairs_in (drop i line) ≡ suc (pairs_in (drop (i + 2) line))
-unfolding pairs_in
-pairs_go line i h is =
-    let two : i + 2 ≡ suc (suc i) = omega arith in
-    rw (two_cons line i h, is, two)
-
--- no pair
-pub pairs_stop : (line : List ℕ) (i : ℕ) → suc i < length line → is_pair (get_or line i 0) (get_or line (suc i) 0) ≡ false → pairs_in (drop i line) ≡ 0
-unfolding pairs_in
-pairs_stop line i h is = rw (two_cons line i h, is)
-
 -- too few bytes for a pair
-pairs_few : (text : List ℕ) → length text ≤ 1 → pairs_in text ≡ 0
+pub pairs_few : (text : List ℕ) → length text < 2 → pairs_in text ≡ 0
 unfolding pairs_in
 pairs_few [] h = refl
 pairs_few (a ∷ []) h = refl
 pairs_few (a ∷ b ∷ text) h = absurd (omega arith)
 
--- no room for a pair
-pub pairs_end : (line : List ℕ) (i : ℕ) → length line ≤ i + 1 → pairs_in (drop i line) ≡ 0
-pairs_end line i h = pairs_few (drop i line) (rw (length-drop i line) (omega arith))
+-- no pair
+pub pairs_stop : (text : List ℕ) → 2 ≤ length text → is_pair (get_or text 0 0) (get_or text 1 0) ≡ false → pairs_in text ≡ 0
+unfolding pairs_in
+pairs_stop [] h is = absurd (omega arith)
+pairs_stop (a ∷ []) h is = absurd (omega arith)
+pairs_stop (a ∷ b ∷ text) h is = rw is refl
+
+-- a pair, and those after it
+pub pairs_go : (text : List ℕ) → 2 ≤ length text → is_pair (get_or text 0 0) (get_or text 1 0) ≡ true → pairs_in text ≡ suc (pairs_in (drop 2 text))
+unfolding pairs_in
+pairs_go [] h is = absurd (omega arith)
+pairs_go (a ∷ []) h is = absurd (omega arith)
+pairs_go (a ∷ b ∷ text) h is = rw is refl
 
 -- pairs have two bytes each
 pairs_within : (text : List ℕ) → 2 * pairs_in text ≤ length text
@@ -49,37 +41,54 @@ pairs_within (a ∷ b ∷ text) = go (is_pair a b) (pairs_within text)
     go true h = omega arith
     go false h = omega arith
 
--- no other number of bytes than one or two ends a line
-end_other : (text : List ℕ) → (length text ≡ 1 → ⊥) → (length text ≡ 2 → ⊥) → is_end text ≡ false
+-- what ends a line, by how many bytes are left
+pub end_none : (text : List ℕ) → length text < 1 → is_end text ≡ false
 unfolding is_end
-end_other [] one two = refl
-end_other (a ∷ []) one two = absurd (one refl)
-end_other (a ∷ b ∷ []) one two = absurd (two refl)
-end_other (a ∷ b ∷ c ∷ text) one two = refl
+end_none [] h = refl
+end_none (a ∷ text) h = absurd (omega arith)
 
--- no byte
-no_bytes : (l : List ℕ) → length l ≡ 0 → l ≡ []
-no_bytes [] e = refl
-no_bytes (x ∷ l) e = absurd (omega arith)
+pub end_lf : (text : List ℕ) → 1 ≤ length text → length text < 2 → get_or text 0 0 ≡ LF → is_end text ≡ true
+unfolding is_end
+end_lf [] h g e = absurd (omega arith)
+end_lf (a ∷ []) h g e = eq-eqb _ _ e
+end_lf (a ∷ b ∷ text) h g e = absurd (omega arith)
 
-module _ (line : List ℕ) (i : ℕ) where
-  -- one byte is left
-  pub ends_one : length line - i ≡ 1 → is_end (drop i line) ≡ eqb (get_or line i 0) LF
-  unfolding is_end
-  ends_one h =
-      let none : drop (suc i) line ≡ [] = no_bytes (drop (suc i) line) (rw (length-drop (suc i) line) (omega arith)) in
-      rw (drop-cons line i 0 (omega arith), none)
+pub end_one : (text : List ℕ) → 1 ≤ length text → length text < 2 → (get_or text 0 0 ≡ LF → ⊥) → is_end text ≡ false
+unfolding is_end
+end_one [] h g other = absurd (omega arith)
+end_one (a ∷ []) h g other = ne_eqb _ _ other
+end_one (a ∷ b ∷ text) h g other = absurd (omega arith)
 
-  -- two are left
-  pub ends_two : length line - i ≡ 2 → is_end (drop i line) ≡ eqb (get_or line i 0) CR && eqb (get_or line (suc i) 0) LF
-  unfolding is_end
-  ends_two h =
-      let none : drop (suc (suc i)) line ≡ [] = no_bytes (drop (suc (suc i)) line) (rw (length-drop (suc (suc i)) line) (omega arith)) in
-      rw (two_cons line i (omega arith), none)
+pub end_cr_lf : (text : List ℕ) → 2 ≤ length text → length text < 3 → get_or text 0 0 ≡ CR → get_or text 1 0 ≡ LF → is_end text ≡ true
+unfolding is_end
+end_cr_lf [] h g e f = absurd (omega arith)
+end_cr_lf (a ∷ []) h g e f = absurd (omega arith)
+end_cr_lf (a ∷ b ∷ []) h g e f = rw (eq-eqb _ _ e, eq-eqb _ _ f)
+end_cr_lf (a ∷ b ∷ d ∷ text) h g e f = absurd (omega arith)
 
-  -- another number is left
-  pub ends_not : (length line - i ≡ 1 → ⊥) → (length line - i ≡ 2 → ⊥) → is_end (drop i line) ≡ false
-  ends_not one two = end_other (drop i line) (λ e. one (sym (length-drop i line) ∙ e)) (λ e. two (sym (length-drop i line) ∙ e))
+pub end_no_cr : (text : List ℕ) → 2 ≤ length text → length text < 3 → (get_or text 0 0 ≡ CR → ⊥) → is_end text ≡ false
+unfolding is_end
+end_no_cr [] h g other = absurd (omega arith)
+end_no_cr (a ∷ []) h g other = absurd (omega arith)
+end_no_cr (a ∷ b ∷ []) h g other = rw (ne_eqb _ _ other)
+end_no_cr (a ∷ b ∷ d ∷ text) h g other = absurd (omega arith)
+
+pub end_no_lf : (text : List ℕ) → 2 ≤ length text → length text < 3 → get_or text 0 0 ≡ CR → (get_or text 1 0 ≡ LF → ⊥) → is_end text ≡ false
+unfolding is_end
+end_no_lf [] h g e other = absurd (omega arith)
+end_no_lf (a ∷ []) h g e other = absurd (omega arith)
+end_no_lf (a ∷ b ∷ []) h g e other = rw (eq-eqb _ _ e, ne_eqb _ _ other)
+end_no_lf (a ∷ b ∷ d ∷ text) h g e other = absurd (omega arith)
+
+pub end_long : (text : List ℕ) → 3 ≤ length text → is_end text ≡ false
+unfolding is_end
+end_long [] h = absurd (omega arith)
+end_long (a ∷ []) h = absurd (omega arith)
+end_long (a ∷ b ∷ []) h = absurd (omega arith)
+end_long (a ∷ b ∷ d ∷ text) h = refl
+
+-- all these
+pub ruleset line_ends = (end_none, end_lf, end_one, end_cr_lf, end_no_cr, end_no_lf, end_long)
 
 -- a line with pairs of digits behind its first byte is so long
 pub pairs_long : (line : List ℕ) (n : ℕ) → n ≡ pairs_in (drop 1 line) → 0 < n → 1 + 2 * n ≤ length line

@@ -2,16 +2,17 @@
 use mathlib.Core.Path.{◌≡◌, refl, ap, ap₂, sym, ◌∙◌}
 use mathlib.Core.Bool.{Bool, true, false, cond, false≢true}
 use mathlib.Core.List.{List, [], ◌∷◌, ◌++◌}
-use Prim.Native.Nat.{ℕ, zero, suc, ◌+◌, ◌*◌, ◌%◌, ◌<◌, ◌≤◌}
+use Prim.Native.Nat.{ℕ, zero, suc, ◌+◌, ◌*◌, ◌<◌, ◌≤◌}
 use native.Mathlib.Omega.{arith}
 use lib.Dec.{eqb}
 use lib.ListN.{length, drop}
 use borrow.Author.Tests.{eqb-true}
+use Rattle.std.specs.Prelude.{slice_index}
 use Rattle.text.proofs.Tests.{both_hold}
 use Rattle.intel_hex.specs.Lines.{LF, CR}
 use Rattle.intel_hex.specs.Records.{LineEnd, lf, cr_lf, Spells, end, byte}
-use Rattle.intel_hex.specs.Reading.{digit_of, is_pair, pairs_in, is_end, byte_at, bytes_at}
-use Rattle.intel_hex.proofs.Values.{digits_pair, pair_digits, digits_byte}
+use Rattle.intel_hex.specs.Reading.{digit_of, is_pair, pairs_in, is_end, worth, byte_at, bytes_at}
+use Rattle.intel_hex.proofs.Values.{worth_below, digits_pair, pair_digits, digits_byte}
 
 -- a line's end is told
 pub end_told : {text : List ℕ} → LineEnd text → is_end text ≡ true
@@ -32,7 +33,7 @@ end_is (a ∷ b ∷ c ∷ text) h = absurd (false≢true h)
 -- a byte is below 256
 pub byte_small : (line : List ℕ) (i : ℕ) → byte_at line i < 256
 unfolding byte_at
-byte_small line i = omega arith
+byte_small line i = omega (arith, worth_below (slice_index line i), worth_below (slice_index line (suc i)))
 
 -- bytes behind a first character
 pub bytes_shift : (a : ℕ) (line : List ℕ) (i n : ℕ) → bytes_at (a ∷ line) (suc i) n ≡ bytes_at line i n
@@ -92,7 +93,7 @@ pairs_spell (a ∷ b ∷ text) (suc n) h e = go (is_pair a b) refl h (λ k. pair
 
     go : (t : Bool) → is_pair a b ≡ t → suc n ≤ cond t (suc (pairs_in text)) 0
         → (n ≤ pairs_in text → LineEnd (drop (2 * n) text) → Spells text (bytes_at text 0 n))
-        → Spells (a ∷ b ∷ text) ((16 * digit_of a + digit_of b) % 256 ∷ bytes_at (a ∷ b ∷ text) 2 n)
+        → Spells (a ∷ b ∷ text) ((16 * worth a + worth b) ∷ bytes_at (a ∷ b ∷ text) 2 n)
     go false is h more = absurd (omega arith)
     go true is h more =
         let (p, q) = pair_digits a b is in

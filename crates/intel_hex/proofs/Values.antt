@@ -1,47 +1,30 @@
 -- What bytes stand for as hex digits. Assumes nothing.
-use mathlib.Core.Path.{◌≡◌, refl}
-use mathlib.Core.Bool.{Bool, true, false, cond, ◌&&◌}
-use Prim.Native.Nat.{ℕ, ◌+◌, ◌-◌, ◌*◌, ◌%◌, ◌<◌, ◌≤◌}
+use mathlib.Core.Path.{◌≡◌, refl, sym}
+use mathlib.Core.Bool.{Bool, true, false, cond, ◌&&◌, false≢true}
+use Prim.Native.Nat.{ℕ, ◌+◌, ◌-◌, ◌*◌, ◌<◌, ◌≤◌}
 use native.Mathlib.Omega.{arith}
-use lib.Dec.{leb, ltb}
-use borrow.Author.Tests.{leb-true, ltb-true, le-leb, lt-leb, lt-ltb}
+use lib.Dec.{leb}
+use borrow.Author.Tests.{leb-true, le-leb, lt-leb}
+use Rattle.std.specs.Prelude.{Option, None, Some, is_some, unwrap_or}
 use Rattle.text.proofs.Tests.{both_hold}
 use Rattle.intel_hex.specs.Records.{Digit, figure, capital, small}
-use Rattle.intel_hex.specs.Reading.{digit_of, is_pair}
+use Rattle.intel_hex.specs.Reading.{digit_of, is_pair, worth}
 
-pub below_figures : (c : ℕ) → c < 48 → digit_of c ≡ 16
-unfolding digit_of
-below_figures c h = rw (lt-leb 48 c h, lt-leb 65 c (omega arith), lt-leb 97 c (omega arith))
-
-pub of_figure : (c : ℕ) → 48 ≤ c → c ≤ 57 → digit_of c ≡ c - 48
+of_figure : (c : ℕ) → 48 ≤ c → c ≤ 57 → digit_of c ≡ Some (c - 48)
 unfolding digit_of
 of_figure c h g = rw (le-leb 48 c h, le-leb c 57 g)
 
-pub past_figures : (c : ℕ) → 57 < c → c < 65 → digit_of c ≡ 16
-unfolding digit_of
-past_figures c h g = rw (le-leb 48 c (omega arith), lt-leb c 57 h, lt-leb 65 c g, lt-leb 97 c (omega arith))
-
-pub of_capital : (c : ℕ) → 65 ≤ c → c ≤ 70 → digit_of c ≡ c - 55
+of_capital : (c : ℕ) → 65 ≤ c → c ≤ 70 → digit_of c ≡ Some (c - 55)
 unfolding digit_of
 of_capital c h g = rw (le-leb 48 c (omega arith), lt-leb c 57 (omega arith), le-leb 65 c h, le-leb c 70 g)
 
-pub past_capitals : (c : ℕ) → 70 < c → c < 97 → digit_of c ≡ 16
-unfolding digit_of
-past_capitals c h g =
-    rw (le-leb 48 c (omega arith), lt-leb c 57 (omega arith), le-leb 65 c (omega arith), lt-leb c 70 h, lt-leb 97 c g)
-
-pub of_small : (c : ℕ) → 97 ≤ c → c ≤ 102 → digit_of c ≡ c - 87
+of_small : (c : ℕ) → 97 ≤ c → c ≤ 102 → digit_of c ≡ Some (c - 87)
 unfolding digit_of
 of_small c h g =
     rw (le-leb 48 c (omega arith), lt-leb c 57 (omega arith), le-leb 65 c (omega arith), lt-leb c 70 (omega arith), le-leb 97 c h, le-leb c 102 g)
 
-pub past_small : (c : ℕ) → 102 < c → digit_of c ≡ 16
-unfolding digit_of
-past_small c h =
-    rw (le-leb 48 c (omega arith), lt-leb c 57 (omega arith), le-leb 65 c (omega arith), lt-leb c 70 (omega arith), le-leb 97 c (omega arith), lt-leb c 102 h)
-
 -- a digit's value
-digit_value : {c d : ℕ} → Digit c d → digit_of c ≡ d
+digit_value : {c d : ℕ} → Digit c d → digit_of c ≡ Some d
 digit_value {c} (figure h g) = of_figure c h g
 digit_value {c} (capital h g) = of_capital c h g
 digit_value {c} (small h g) = of_small c h g
@@ -52,33 +35,44 @@ digit_below (figure h g) = omega arith
 digit_below (capital h g) = omega arith
 digit_below (small h g) = omega arith
 
--- a value below 16 is a digit's
-digit_of_lem : (c : ℕ) → digit_of c < 16 → Digit c (digit_of c)
-unfolding digit_of
+-- what counts as a digit is one, of that worth
+digit_of_lem : (c : ℕ) → is_some (digit_of c) ≡ true → Digit c (worth c)
+unfolding worth digit_of
 digit_of_lem c h = go (leb 48 c && leb c 57) (leb 65 c && leb c 70) (leb 97 c && leb c 102) refl refl refl h
   where
     go : (f k s : Bool) → leb 48 c && leb c 57 ≡ f → leb 65 c && leb c 70 ≡ k → leb 97 c && leb c 102 ≡ s
-        → cond f (c - 48) (cond k (c - 55) (cond s (c - 87) 16)) < 16 → Digit c (cond f (c - 48) (cond k (c - 55) (cond s (c - 87) 16)))
+        → is_some (cond f (Some (c - 48)) (cond k (Some (c - 55)) (cond s (Some (c - 87)) None))) ≡ true
+        → Digit c (unwrap_or (cond f (Some (c - 48)) (cond k (Some (c - 55)) (cond s (Some (c - 87)) None))) 0)
     go true k s ef ek es h = let (low, high) = both_hold _ _ ef in figure (leb-true 48 c low) (leb-true c 57 high)
     go false true s ef ek es h = let (low, high) = both_hold _ _ ek in capital (leb-true 65 c low) (leb-true c 70 high)
     go false false true ef ek es h = let (low, high) = both_hold _ _ es in small (leb-true 97 c low) (leb-true c 102 high)
-    go false false false ef ek es h = absurd (omega arith)
+    go false false false ef ek es h = absurd (false≢true h)
+
+-- a byte's worth is below 16
+pub worth_below : (c : ℕ) → worth c < 16
+worth_below c = go (is_some (digit_of c)) refl
+  where
+    none : (d : Option ℕ) → is_some d ≡ false → unwrap_or d 0 < 16
+    none None h = omega arith
+    none (Some n) h = absurd (false≢true (sym h))
+
+    go : (t : Bool) → is_some (digit_of c) ≡ t → worth c < 16
+    go true h = digit_below (digit_of_lem c h)
+    go false h = unfold worth in none (digit_of c) h
 
 -- two digits are a pair
 pub digits_pair : {a b x y : ℕ} → Digit a x → Digit b y → is_pair a b ≡ true
 unfolding is_pair
-digits_pair {a} {b} p q =
-    let first : digit_of a < 16 = rw (digit_value p) (digit_below p) in
-    let second : digit_of b < 16 = rw (digit_value q) (digit_below q) in
-    rw (lt-ltb (digit_of a) 16 first, lt-ltb (digit_of b) 16 second)
+digits_pair {a} {b} p q = rw (digit_value p, digit_value q) refl
 
 -- a pair is two digits
-pub pair_digits : (a b : ℕ) → is_pair a b ≡ true → Digit a (digit_of a) × Digit b (digit_of b)
+pub pair_digits : (a b : ℕ) → is_pair a b ≡ true → Digit a (worth a) × Digit b (worth b)
 unfolding is_pair
 pair_digits a b h =
-    let (first, second) = both_hold (ltb (digit_of a) 16) (ltb (digit_of b) 16) h in
-    (digit_of_lem a (ltb-true (digit_of a) 16 first), digit_of_lem b (ltb-true (digit_of b) 16 second))
+    let (first, second) = both_hold (is_some (digit_of a)) (is_some (digit_of b)) h in
+    (digit_of_lem a first, digit_of_lem b second)
 
 -- two digits are a byte
-pub digits_byte : {a b x y : ℕ} → Digit a x → Digit b y → (16 * digit_of a + digit_of b) % 256 ≡ 16 * x + y
-digits_byte p q = rw (digit_value p, digit_value q) (omega (arith, digit_below p, digit_below q))
+pub digits_byte : {a b x y : ℕ} → Digit a x → Digit b y → 16 * worth a + worth b ≡ 16 * x + y
+unfolding worth
+digits_byte p q = rw (digit_value p, digit_value q) refl

@@ -1,10 +1,10 @@
 -- Intel HEX files: the bytes that a file gives, the numbers that refuse one, and what is left in the code area. Assumes nothing.
-use Rattle.std.specs.Prelude.{◌≡◌, ℕ, suc, ◌+◌, ◌-◌, ◌*◌, ◌%◌, ◌<◌, ◌≤◌, length, if◌then◌else◌, slice_index, ◌==◌}
+use Rattle.std.specs.Prelude.{◌≡◌, ℕ, suc, ◌+◌, ◌-◌, ◌*◌, ◌%◌, ◌<◌, ◌≤◌, length, if◌then◌else◌, slice_index, ◌==◌, Result, Ok, Err, codes}
 use mathlib.Core.List.{List, [], ◌∷◌, ◌++◌, Memᴰ}
 use Rattle.intel_hex.specs.Lines.{lines_of}
 use Rattle.intel_hex.specs.Records.{Record, in_order, Reads, total}
-use Rattle.intel_hex.specs.declared.Answer.{Answer}
-use Rattle.intel_hex.specs.declared.Answer.TheVariants.{Code, Refused}
+use Rattle.intel_hex.specs.declared.fault.Fault.{Fault as Refusal}
+use Rattle.intel_hex.specs.declared.fault.Refused.{Refused}
 
 -- bytes given one after another, from an address on
 unfoldable pub given_from : ℕ → List ℕ → List (ℕ × ℕ)
@@ -117,12 +117,34 @@ pub data Outcome (text area : List ℕ) : (number value : ℕ) → List ℕ → 
   read : {records : List Record} {size : ℕ} {after : List ℕ} → Stand (length area) [] (lines_of text) records → Ended records
       → Holds (given records) area size after → Outcome text area 0 size after
 
--- the paper's number of an answer; 0 for a file that is read
-abbrev pub number_of : Answer → ℕ
-number_of (Code n) = 0
-number_of (Refused number line) = number
+-- the number of a refusal
+abbrev pub refusal_number : Refusal → ℕ
+refusal_number Refusal.Malformed = 30
+refusal_number Refusal.WrongSum = 31
+refusal_number Refusal.OtherType = 32
+refusal_number Refusal.Outside = 33
+refusal_number Refusal.GivenBefore = 34
+refusal_number Refusal.NoEnd = 35
+refusal_number Refusal.AfterEnd = 36
+refusal_number Refusal.NoData = 37
+
+-- its words
+abbrev pub refusal_text : Refusal → List ℕ
+refusal_text Refusal.Malformed = codes "this line is malformed"
+refusal_text Refusal.WrongSum = codes "this line's sum is wrong"
+refusal_text Refusal.OtherType = codes "this line's type is another one, or 01 or 04 without just 0 or 2 data bytes"
+refusal_text Refusal.Outside = codes "this line has a byte outside the code area or above 0001FFFFh"
+refusal_text Refusal.GivenBefore = codes "this line has an address that was given before"
+refusal_text Refusal.NoEnd = codes "there is no end record"
+refusal_text Refusal.AfterEnd = codes "this line stands after the end record"
+refusal_text Refusal.NoData = codes "there is no data byte"
+
+-- the number of an answer; 0 for a file that is read
+abbrev pub number_of : Result ℕ Refused → ℕ
+number_of (Ok size) = 0
+number_of (Err why) = refusal_number why.fault
 
 -- the code's length, or the line
-abbrev pub value_of : Answer → ℕ
-value_of (Code n) = n
-value_of (Refused number line) = line
+abbrev pub value_of : Result ℕ Refused → ℕ
+value_of (Ok size) = size
+value_of (Err why) = why.line

@@ -1,40 +1,59 @@
-// The image of the code while a file is read: a cell for each address, 100h more than the byte given there, and 90h in a gap.
-ghost use Rattle.std.specs.Prelude.{◌≡◌, List, ℕ, ◌+◌, ◌*◌, ◌≤◌, length};
+//! The image of the code while a file is read.
+ghost use Rattle.std.specs.Prelude.{◌≡◌, List, ℕ, ◌+◌, ◌≤◌, length, replicate, None};
 ghost use Rattle.intel_hex.specs.Files.{given_from, code_base};
 ghost use Rattle.intel_hex.specs.Reading.{bytes_at, Shows, Lays, Copied};
 
-use crate::digits::byte_at;
+use crate::fault::Fault;
+use crate::line::Line;
 
-// Lays the data bytes of a line into the image, from an offset on. Tells whether none of their addresses was given before.
-pub fn lay(line: &[u8], count: usize, image: &mut [u16], from: usize) -> bool
-    requires count_in_bounds { 9 + 2 * count ≤ length line.now }
-    requires count_bound { from + count ≤ 65536 }
-    requires image_len { length image.old ≡ 65536 }
-    ensures { (bytes : List (ℕ × ℕ)) → Shows bytes image.old → Lays (given_from (code_base + from) (bytes_at line.now 9 count)) bytes result image.new }
-{
-    let mut k = 0;
-    while k < count {
-        let byte = byte_at(line, 9 + 2 * k);
-        let cell = image[from + k];
-        if cell >= 0x100 {
-            return false;
-        }
-        image[from + k] = 0x100 + byte as u16;
-        k += 1;
-    }
-    true
+/// The most bytes of code: one for each address from 00010000h to 0001FFFFh.
+pub const MOST: usize = 65536;
+
+/// What fills the code where no byte is given.
+const GAP: u8 = 0x90;
+
+/// The byte given for each address from 00010000h to 0001FFFFh, if one was.
+// A fixed array: `read` cannot fail for want of memory, and asks for none.
+#[derive(Drop)]
+pub struct Image {
+    cells: [Option<u8>; MOST],
 }
 
-// Copies so many cells into the code area.
-pub fn copy(image: &[u16], code: &mut [u8], size: usize)
-    requires within_image { size ≤ length image.now }
-    requires within_code { size ≤ length code.old }
-    ensures { Copied image.now code.old size code.new }
-{
-    let mut i = 0;
-    while i < size {
-        let cell = image[i];
-        code[i] = (cell % 0x100) as u8;
-        i += 1;
+impl Image {
+    /// With no byte given.
+    pub fn blank() -> Self
+        ensures { result.cells ≡ replicate 65536 None }
+    {
+        Image {
+            cells: [None; MOST],
+        }
+    }
+
+    /// Lays the data bytes of a record from an offset on. Refused where one of their addresses was given before.
+    pub fn lay(&mut self, line: &Line, from: usize) -> Result<(), Fault>
+        requires { from + line.now.count ≤ 65536 }
+        ensures { (bytes : List (ℕ × ℕ)) → Shows bytes self.old.cells → Lays (given_from (code_base + from) (bytes_at line.now.bytes.now 9 line.now.count)) bytes result self.new.cells }
+    {
+        // By place, for the same reason as in `copy_to`.
+        for k in 0..line.count {
+            let byte = line.data(k);
+            let given = self.cells[from + k];
+            if given.is_some() {
+                return Err(Fault::GivenBefore);
+            }
+            self.cells[from + k] = Some(byte);
+        }
+        Ok(())
+    }
+
+    /// Copies the first bytes into an area of the code, as many as that has.
+    pub fn copy_to(&self, code: &mut [u8])
+        requires { length code.old ≤ 65536 }
+        ensures { Copied self.now.cells code.old (length code.old) code.new }
+    {
+        // By place, for nothing is known of what a zip of iter_mut writes.
+        for i in 0..code.len() {
+            code[i] = self.cells[i].unwrap_or(GAP);
+        }
     }
 }

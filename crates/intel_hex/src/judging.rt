@@ -1,173 +1,124 @@
-// Judging a line after those before it.
-ghost use Rattle.std.specs.Prelude.{◌≡◌, ◌+◌, ◌*◌, ◌%◌, ◌^◌, ◌<◌, ◌≤◌, length, false};
-ghost use Rattle.intel_hex.specs.Records.{Reads, total};
-ghost use Rattle.intel_hex.specs.Reading.{byte_at, bytes_at, record_in, Summed, ending, rising, reaching, end_judged, upper_judged, JudgesFrom};
+//! Judging a line after those before it.
+ghost use Rattle.std.specs.Prelude.{◌≡◌, false};
+ghost use Rattle.intel_hex.specs.Reading.{byte_at, Summed, IsRecord, ending, rising, reaching, end_judged, upper_judged, JudgesFrom};
 
-use crate::digits::byte_at;
-use crate::form::{Form, form_of};
-use crate::image::lay;
+use crate::fault::Fault;
+use crate::image::{Image, MOST};
+use crate::line::Line;
 
-// What is known after some lines: whether an end record was among them, the upper half, the code's length so far.
+/// Code offset 0.
+const CODE: usize = 0x0001_0000;
+
+/// What is known after some lines: whether an end record was among them, the upper half, the code's length so far.
+// `ended` is a state of its own: no other field hangs on it.
 #[derive(Clone, Copy)]
 pub struct File {
     pub ended: bool,
-    pub upper: usize,
+    pub upper: u16,
     pub top: usize,
 }
 
 impl File {
-    // With an end record.
+    /// With an end record.
+    #[tactic(auto, unfolding(crate::specs::Reading::ending))]
     fn ending(self) -> Self
         ensures { result ≡ ending self }
     {
         File {
             ended: true,
-            upper: self.upper,
-            top: self.top,
+            ..self
         }
     }
 
-    // With another upper half.
-    fn rising(self, upper: usize) -> Self
+    /// With another upper half.
+    #[tactic(auto, unfolding(crate::specs::Reading::rising))]
+    fn rising(self, upper: u16) -> Self
         ensures { result ≡ rising self upper }
     {
-        File {
-            ended: self.ended,
-            upper,
-            top: self.top,
-        }
+        File { upper, ..self }
     }
 
-    // With code of at least so many bytes.
+    /// With code of at least so many bytes.
+    #[tactic(auto, unfolding(crate::specs::Reading::reaching))]
     fn reaching(self, top: usize) -> Self
         ensures { result ≡ reaching self top }
     {
         if top <= self.top {
             return self;
         }
-        File {
-            ended: self.ended,
-            upper: self.upper,
-            top,
-        }
+        File { top, ..self }
     }
 }
 
-// What a line does: it is sound, and this is known after it; or the number that refuses it.
-#[derive(Clone, Copy)]
-pub enum Judged {
-    Sound(File),
-    Faulty(u32),
-}
-
-// The sum of a line's first bytes, so many, modulo 256.
-fn sum_of(line: &[u8], n: usize) -> u32
-    requires { 1 + 2 * n ≤ length line.now }
-    ensures { result ≡ total (bytes_at line.now 1 n) % 256 }
+/// Judges a record of type 00.
+fn judge_data(line: &Line, file: File, size: usize, image: &mut Image) -> Result<File, Fault>
+    requires summed { Summed line.now.bytes.now line.now.count × (byte_at line.now.bytes.now 7 ≡ 0) }
+    requires not_ended { file.ended ≡ false }
+    ensures { JudgesFrom size file image.old.cells line.now.bytes.now result image.new.cells }
 {
-    let mut sum = 0;
-    let mut k = 0;
-    while k < n {
-        sum = (sum + byte_at(line, 1 + 2 * k) as u32) % 256;
-        k += 1;
+    if line.count == 0 {
+        return Ok(file);
     }
-    sum
+    let start = usize::from(file.upper) * 65536 + usize::from(line.offset());
+    if start < CODE {
+        return Err(Fault::Outside);
+    }
+    let from = start - CODE;
+    let end = from + line.count;
+    if end > MOST || end > size {
+        return Err(Fault::Outside);
+    }
+    image.lay(line, from)?;
+    Ok(file.reaching(end))
 }
 
-// Two bytes at a place, the upper first.
-fn two_bytes(line: &[u8], i: usize) -> usize
-    requires { i + 3 < length line.now }
-    ensures { (result ≡ 256 * byte_at line.now i + byte_at line.now (i + 2)) × (result < 65536) }
+/// Judges a record of type 01.
+#[tactic(auto, unfolding(crate::specs::Reading::end_judged))]
+fn judge_end(line: &Line, file: File) -> Result<File, Fault>
+    ensures { result ≡ end_judged line.now.count file }
 {
-    256 * byte_at(line, i) as usize + byte_at(line, i + 2) as usize
+    if line.count != 0 {
+        return Err(Fault::OtherType);
+    }
+    Ok(file.ending())
 }
 
-// Where the data bytes of a line lie: from upper half × 65,536 plus offset on.
-fn start_of(line: &[u8], upper: usize) -> usize
-    requires in_bounds { 6 < length line.now }
-    requires upper_bound { upper < 65536 }
-    ensures { (result ≡ upper * 65536 + (256 * byte_at line.now 3 + byte_at line.now 5)) × (result < 2 ^ 32) }
+/// Judges a record of type 04.
+#[tactic(auto, unfolding(crate::specs::Reading::upper_judged))]
+fn judge_upper(line: &Line, file: File) -> Result<File, Fault>
+    ensures { result ≡ upper_judged line.now.bytes.now line.now.count file }
 {
-    upper * 65536 + two_bytes(line, 3)
+    if line.count != 2 {
+        return Err(Fault::OtherType);
+    }
+    Ok(file.rising(line.upper()))
 }
 
-// Judges a record of type 00.
-fn judge_data(line: &[u8], count: usize, file: File, size: usize, image: &mut [u16]) -> Judged
-    requires summed { Summed line.now count × (byte_at line.now 7 ≡ 0) }
-    requires not_ended { (file.ended ≡ false) × (file.upper < 65536) }
-    requires image_len { length image.old ≡ 65536 }
-    ensures { JudgesFrom size file image.old line.now result image.new }
+/// Judges a record.
+fn judge_record(line: &Line, file: File, size: usize, image: &mut Image) -> Result<File, Fault>
+    requires is_record { IsRecord line.now.bytes.now line.now.count }
+    requires not_ended { file.ended ≡ false }
+    ensures { JudgesFrom size file image.old.cells line.now.bytes.now result image.new.cells }
 {
-    if count == 0 {
-        return Judged::Sound(file);
+    if line.sum() != 0 {
+        return Err(Fault::WrongSum);
     }
-    let start = start_of(line, file.upper);
-    if start < 0x1_0000 {
-        return Judged::Faulty(33);
-    }
-    let from = start - 0x1_0000;
-    if from + count > 65536 {
-        return Judged::Faulty(33);
-    }
-    if from + count > size {
-        return Judged::Faulty(33);
-    }
-    if !lay(line, count, image, from) {
-        return Judged::Faulty(34);
-    }
-    Judged::Sound(file.reaching(from + count))
-}
-
-// Judges a record of type 01.
-fn judge_end(count: usize, file: File) -> Judged
-    ensures { result ≡ end_judged count file }
-{
-    if count != 0 {
-        return Judged::Faulty(32);
-    }
-    Judged::Sound(file.ending())
-}
-
-// Judges a record of type 04.
-fn judge_upper(line: &[u8], count: usize, file: File) -> Judged
-    requires { 11 + 2 * count ≤ length line.now }
-    ensures { result ≡ upper_judged line.now count file }
-{
-    if count != 2 {
-        return Judged::Faulty(32);
-    }
-    Judged::Sound(file.rising(two_bytes(line, 9)))
-}
-
-// Judges a record.
-fn judge_record(line: &[u8], count: usize, file: File, size: usize, image: &mut [u16]) -> Judged
-    requires reads_record { (count ≡ byte_at line.now 1) × Reads line.now (record_in line.now count) }
-    requires not_ended { (file.ended ≡ false) × (file.upper < 65536) }
-    requires image_len { length image.old ≡ 65536 }
-    ensures { JudgesFrom size file image.old line.now result image.new }
-{
-    if sum_of(line, count + 5) != 0 {
-        return Judged::Faulty(31);
-    }
-    match byte_at(line, 7) {
-        0 => judge_data(line, count, file, size, image),
-        1 => judge_end(count, file),
-        4 => judge_upper(line, count, file),
-        _ => Judged::Faulty(32),
+    // The types are the format's own numbers: an enum of them would be made and taken apart at this one place.
+    match line.kind() {
+        0 => judge_data(line, file, size, image),
+        1 => judge_end(line, file),
+        4 => judge_upper(line, file),
+        _ => Err(Fault::OtherType),
     }
 }
 
-// Judges a line.
-pub fn judge_line(line: &[u8], file: File, size: usize, image: &mut [u16]) -> Judged
-    requires upper_bound { file.upper < 65536 }
-    requires image_len { length image.old ≡ 65536 }
-    ensures { JudgesFrom size file image.old line.now result image.new }
+/// Judges a line.
+pub fn judge_line(bytes: &[u8], file: File, size: usize, image: &mut Image) -> Result<File, Fault>
+    ensures { JudgesFrom size file image.old.cells bytes.now result image.new.cells }
 {
     if file.ended {
-        return Judged::Faulty(36);
+        return Err(Fault::AfterEnd);
     }
-    match form_of(line) {
-        Form::Record(count) => judge_record(line, count, file, size, image),
-        Form::Malformed => Judged::Faulty(30),
-    }
+    let line = Line::read(bytes).ok_or(Fault::Malformed)?;
+    judge_record(&line, file, size, image)
 }

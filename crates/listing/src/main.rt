@@ -1,4 +1,4 @@
-// The listing program: standard input holds a block's code, standard output its listing.
+//! The listing program: standard input holds a block's code, standard output its listing.
 #![tactic(auto)]
 
 fn main(rt: HostRuntime) {

@@ -1,4 +1,5 @@
-// The listing program on a jump that leads to no start.
+//! The listing program on a jump that leads to no start.
+//! A program of its own, since a program has one stored input.
 #![tactic(auto)]
 
 fn main(rt: HostRuntime) {

@@ -1,4 +1,5 @@
-// The listing program on a block that ends inside an instruction.
+//! The listing program on a block that ends inside an instruction.
+//! A program of its own, since a program has one stored input.
 #![tactic(auto)]
 
 fn main(rt: HostRuntime) {

@@ -1,4 +1,5 @@
-// The listing program on empty input.
+//! The listing program on empty input.
+//! A program of its own, since a program has one stored input.
 #![tactic(auto)]
 
 fn main(rt: HostRuntime) {

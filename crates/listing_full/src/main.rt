@@ -1,4 +1,5 @@
-// The listing program on 65,536 instructions of one byte.
+//! The listing program on 65,536 instructions of one byte.
+//! A program of its own, since a program has one stored input.
 #![tactic(auto)]
 
 fn main(rt: HostRuntime) {

@@ -13,7 +13,9 @@ use Rattle.grammar.specs.Grammar.{prefix_bytes, Opcode, alone, after_0f, opcode_
 use Rattle.grammar.specs.Answers.{numbers}
 use Rattle.grammar.specs.Decoding.{decode_of}
 use Rattle.grammar.specs.declared.instruction.Decoded.{Decoded}
-use Rattle.grammar.specs.declared.instruction.Found.{Found}
+use Rattle.grammar.specs.Answers.{Found}
+use Rattle.std.specs.Prelude.{Ok, Err}
+use Rattle.grammar.specs.declared.instruction.Fault.{Fault}
 use Rattle.grammar.proofs.Answered.{Standing, found_standing, found_inside}
 use Rattle.blockcheck.proofs.Cuts.{pieces_within, astray_within}
 use Rattle.blockcheck.specs.Blocks.{Reached, Judged, bad_length, bad_marks, cut_at, unknown_at, astray_at, accepted}
@@ -84,12 +86,12 @@ lines_short code (suc n) i most = go (decode_of code i) refl (λ k. lines_short 
   where
     go : (f : Found) → decode_of code i ≡ f → ((k : ℕ) → length (lines_from code n k) ≤ 12 * (length code - k))
         → length (line_then i f (lines_from code n)) ≤ 12 * (length code - i)
-    go (Found.Instruction d) e later =
+    go (Ok d) e later =
         let inside = found_inside code i d e in
         unfold line_then in
         rw length-append (omega (arith, line_short i (drop i code) d (omega arith) (found_standing code i d e), later (i + d.length)))
-    go Found.Cut e later = unfold line_then in omega arith
-    go Found.Unknown e later = unfold line_then in omega arith
+    go (Err Fault.Cut) e later = unfold line_then in omega arith
+    go (Err Fault.Unknown) e later = unfold line_then in omega arith
 
 -- what is cut before the rest is no longer than the code
 before_inside : {code rest : List ℕ} (r : Reached code rest) → length r.before ≤ length code

@@ -3,7 +3,9 @@ use Rattle.std.specs.Prelude.{List, [], ◌∷◌, ◌++◌, ℕ, zero, suc, ◌
 use Rattle.grammar.specs.Choice.{pick}
 use Rattle.grammar.specs.Grammar.{opcode_bytes, Instruction, Cut, done, next}
 use Rattle.grammar.specs.Decoding.{decode_of}
-use Rattle.grammar.specs.declared.instruction.Found.{Found}
+use Rattle.grammar.specs.Answers.{Found}
+use Rattle.std.specs.Prelude.{Ok, Err}
+use Rattle.grammar.specs.declared.instruction.Fault.{Fault}
 use Rattle.blockcheck.specs.Blocks.{Judged}
 use Rattle.text.specs.Ascii.{ascii}
 use Rattle.text.specs.Written.{Wrote}
@@ -28,9 +30,9 @@ line_of offset size opcode = field offset tab ++ field size tab ++ opcode_text o
 
 -- the line of an instruction found at offset i, and what follows it
 unfoldable pub line_then : ℕ → Found → (ℕ → List ℕ) → List ℕ
-line_then i (Found.Instruction d) later = line_of i d.length d.opcode ++ later (i + d.length)
-line_then i Found.Cut later = []
-line_then i Found.Unknown later = []
+line_then i (Ok d) later = line_of i d.length d.opcode ++ later (i + d.length)
+line_then i (Err Fault.Cut) later = []
+line_then i (Err Fault.Unknown) later = []
 
 -- the lines of n instructions that stand one after another, from offset i on
 unfoldable pub lines_from : List ℕ → ℕ → ℕ → List ℕ

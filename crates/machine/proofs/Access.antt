@@ -4,6 +4,7 @@ use mathlib.Core.Bool.{Bool, true, false, cond, and-eq-true_iff}
 use mathlib.Core.List.{List, [], append_assoc}
 use Prim.Native.Nat.{ℕ, zero, suc, ◌+◌, ◌-◌, ◌*◌, ◌%◌, ◌^◌, ◌<◌, ◌≤◌}
 use native.Mathlib.Omega.{arith}
+use Rattle.std.specs.Prelude.{Option, Some, None}
 use lib.Dec.{leb}
 use lib.ListN.{length, get_or, take, drop, length-drop}
 use lib.Seq.{sets, length-sets, sets-eq, take_at, drop_at, take_all, length-take-le}
@@ -13,13 +14,7 @@ use Rattle.width.specs.declared.Size.TheVariants.{Byte, Word, Dword}
 use Rattle.width.specs.Sizes.{bits, bytes, modulus}
 use Rattle.width.specs.LittleEndian.{little_endian, bytes_of}
 use Rattle.width.proofs.LittleEndian.{number_one, number_two, number_four}
-use Rattle.machine.specs.declared.memory.Located.{Located}
-use Rattle.machine.specs.declared.memory.Located.TheVariants.{At}
-use Rattle.machine.specs.declared.memory.Loaded.{Loaded}
-use Rattle.machine.specs.declared.memory.Loaded.TheVariants.{Value}
-use Rattle.machine.specs.declared.memory.Stored.{Stored}
-use Rattle.machine.specs.declared.memory.Stored.TheVariants.{Done}
-use Rattle.machine.specs.Memory.{data_base, constants_base, holds, place_of, first_outside, first_unread, part_of, Read, part, outside, read_of, held, numbered, load_of, stored_of, store_of}
+use Rattle.machine.specs.Memory.{data_base, constants_base, holds, place_of, first_outside, first_unread, part_of, Read, part, outside, read_of, held, Loaded, Value, Stored, Done, numbered, load_of, stored_of, store_of}
 
 module _ (base len n a : ℕ) where
   -- an area holds an access that lies in it
@@ -59,11 +54,11 @@ module _ (base len n a : ℕ) where
     pub outside : holds base len n a ≡ false
 
 -- what a place that was found says of the access
-pub placed : {p : Located} {base len m n a at : ℕ} → m ≡ n → p ≡ place_of base len m a → p ≡ At at → Placed base len n a at
+pub placed : {p : Option ℕ} {base len m n a at : ℕ} → m ≡ n → p ≡ place_of base len m a → p ≡ Some at → Placed base len n a at
 unfolding place_of
 placed {p} {base} {len} {m} {n} {a} {at} size found is = by (holds base len n a) refl (rw size at (sym found ∙ is))
   where
-    by : (t : Bool) → holds base len n a ≡ t → cond t (At (a - base)) Located.Outside ≡ At at → Placed base len n a at
+    by : (t : Bool) → holds base len n a ≡ t → cond t (Some (a - base)) None ≡ Some at → Placed base len n a at
     by true h e =
         let within = fits_in base len n a h in
         let place : at ≡ a - base = cc in
@@ -71,11 +66,11 @@ placed {p} {base} {len} {m} {n} {a} {at} size found is = by (holds base len n a)
     by false h e = absurd (let z : ◌≡◌ {A = ℕ} 0 1 = cc in omega arith)
 
 -- what an answer that none was found says of it
-pub missed : {p : Located} {base len m n a : ℕ} → m ≡ n → p ≡ place_of base len m a → p ≡ Located.Outside → Missed base len n a
+pub missed : {p : Option ℕ} {base len m n a : ℕ} → m ≡ n → p ≡ place_of base len m a → p ≡ None → Missed base len n a
 unfolding place_of
 missed {p} {base} {len} {m} {n} {a} size found is = by (holds base len n a) refl (rw size at (sym found ∙ is))
   where
-    by : (t : Bool) → holds base len n a ≡ t → cond t (At (a - base)) Located.Outside ≡ Located.Outside → Missed base len n a
+    by : (t : Bool) → holds base len n a ≡ t → cond t (Some (a - base)) None ≡ None → Missed base len n a
     by true h e = absurd (let z : ◌≡◌ {A = ℕ} 0 1 = cc in omega arith)
     by false h e = record { outside = h }
 

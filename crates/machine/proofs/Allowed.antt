@@ -9,11 +9,7 @@ use lib.ListN.{length}
 use Rattle.width.specs.declared.Size.{Size}
 use Rattle.width.specs.Sizes.{bytes}
 use Rattle.width.specs.LittleEndian.{little_endian}
-use Rattle.machine.specs.declared.memory.Loaded.{Loaded}
-use Rattle.machine.specs.declared.memory.Loaded.TheVariants.{Value}
-use Rattle.machine.specs.declared.memory.Stored.{Stored}
-use Rattle.machine.specs.declared.memory.Stored.TheVariants.{Done}
-use Rattle.machine.specs.Memory.{data_base, constants_base, holds, first_outside, first_unread, part_of, numbered, load_of, stored_of}
+use Rattle.machine.specs.Memory.{data_base, constants_base, holds, first_outside, first_unread, part_of, numbered, load_of, stored_of, Loaded, Value, Stored, Done}
 use Rattle.machine.specs.Allowed.{Lies, Readable, in_data, in_constants, Writable}
 use Rattle.machine.proofs.Access.{is_held, is_within, first_itself, read_data, read_constants, read_outside, stored_held, stored_outside}
 

@@ -1,7 +1,6 @@
 -- The laws of `machine`. Assumes nothing.
 pub mod Access
 pub mod Allowed
-pub mod Changes
 pub mod Lists
 pub mod Outside
 pub mod Parts

@@ -1,13 +1,12 @@
--- Elements of a list one by one, and XMM registers by their bits. Assumes nothing.
+-- Elements of a list one by one, and what is put into one of them. Assumes nothing.
 use mathlib.Core.Path.{◌≡◌, refl, ap, ◌∙◌}
-use mathlib.Core.List.{List, [], ◌∷◌, map}
+use mathlib.Core.List.{List, [], ◌∷◌}
 use Prim.Native.Nat.{ℕ, zero, suc, ◌+◌, ◌%◌, ◌≤◌}
 use native.Mathlib.Omega.{arith}
 use lib.ListN.{length, get_or, set, length-set, take, drop}
 use lib.Seq.{drop-cons, take_all, get_or-set_same, get_or-set_other}
 use Rattle.scalar.specs.declared.Xmm.{Xmm}
 use Rattle.machine.specs.Registers.{xmm, bits_in, with_bits}
-use Rattle.machine.specs.Lending.{xmm_of}
 
 -- so many elements from a place on, one by one
 abbrev pub listed : {A : Type 0} → A → ℕ → ℕ → List A → List A
@@ -24,30 +23,11 @@ part_listed {A} d (suc n) k l h =
 pub eight_listed : {A : Type 0} (d : A) (l : List A) → length l ≡ 8 → listed d 8 0 l ≡ l
 eight_listed d l eight = part_listed d 8 0 l (omega arith) ∙ take_all 8 l (omega arith)
 
--- the bits of one of some
-at_bits : (l : List ℕ) (k : ℕ) → get_or l k 0 ≡ (get_or {A = Xmm} (map xmm l) k (xmm 0)).bits
-at_bits [] k = refl
-at_bits (n ∷ l) zero = refl
-at_bits (n ∷ l) (suc k) = at_bits l k
-
-pub bits_in_lem : (l : List ℕ) (i : ℕ) → get_or l (i % 8) 0 ≡ bits_in (xmm_of l) i
-unfolding bits_in xmm_of
-bits_in_lem l i = at_bits l (i % 8)
-
--- bits put among them
-set_bits : (l : List ℕ) (k v : ℕ) → map xmm (set l k v) ≡ set (map xmm l) k (xmm v)
-set_bits [] k v = refl
-set_bits (n ∷ l) zero v = refl
-set_bits (n ∷ l) (suc k) v = ap (λ (r : List Xmm). xmm n ∷ r) (set_bits l k v)
-
-pub with_bits_lem : (l : List ℕ) (i v : ℕ) → xmm_of (set l (i % 8) v) ≡ with_bits (xmm_of l) i v
-unfolding with_bits xmm_of
-with_bits_lem l i v = set_bits l (i % 8) v
-
--- the XMM registers of their own bits, one by one
-pub of_bits : (all : List Xmm) → length all ≡ 8 → xmm_of (map (λ (x : Xmm). x.bits) (listed (xmm 0) 8 0 all)) ≡ all
-unfolding xmm_of
-of_bits all eight = eight_listed (xmm 0) all eight
+-- a value put after another one at the same place may be worked out from the other: for every list, also one that has no such place
+pub again : (regs : List ℕ) (i x : ℕ) (f : ℕ → ℕ) → set (set regs i x) i (f (get_or (set regs i x) i 0)) ≡ set (set regs i x) i (f x)
+again [] i x f = refl
+again (y ∷ ys) zero x f = refl
+again (y ∷ ys) (suc i) x f = ap (λ (r : List ℕ). y ∷ r) (again ys i x f)
 
 -- what is put into one of eight XMM registers is read from it again, bit for bit
 pub put_read : (all : List Xmm) (i v : ℕ) → length all ≡ 8 → bits_in (with_bits all i v) i ≡ v

@@ -10,9 +10,7 @@ use lib.ListN.{length}
 use borrow.Author.Tests.{ltb-true, ltb-false}
 use Rattle.width.specs.declared.Size.{Size}
 use Rattle.width.specs.Sizes.{bytes}
-use Rattle.machine.specs.declared.memory.Loaded.{Loaded}
-use Rattle.machine.specs.declared.memory.Stored.{Stored}
-use Rattle.machine.specs.Memory.{data_base, constants_base, holds, first_outside, first_unread, load_of, stored_of}
+use Rattle.machine.specs.Memory.{data_base, constants_base, holds, first_outside, first_unread, load_of, stored_of, Loaded, Stored}
 use Rattle.machine.specs.Allowed.{Lies, Readable, in_data, in_constants, First, Unread, of_data, of_constants, of_neither, Among}
 use Rattle.machine.proofs.Access.{is_within, some_bytes, first_past, first_itself, unread_data, unread_constants}
 use Rattle.machine.proofs.Allowed.{lies_held, held_lies, unheld, not_held, not_above, not_both, outside_exactly, undone_exactly}

@@ -2,4 +2,5 @@
 pub mod Registers
 pub mod Lending
 pub mod Memory
+pub mod Answers
 pub mod Allowed

@@ -1,15 +1,9 @@
 -- The lent areas: data, read and written, and constants, which are only read. Assumes nothing.
-use Rattle.std.specs.Prelude.{Bool, ◌&&◌, List, [], ℕ, ◌+◌, ◌-◌, ◌%◌, ◌^◌, length, take, drop, if◌then◌else◌, nat_le}
+use Rattle.std.specs.Prelude.{Bool, ◌&&◌, List, [], ℕ, Option, Some, None, ◌+◌, ◌-◌, ◌%◌, ◌^◌, length, take, drop, if◌then◌else◌, nat_le}
 use Rattle.std.proofs.lemmas.List.Edits.{sets}
 use Rattle.width.specs.declared.Size.{Size}
 use Rattle.width.specs.Sizes.{bytes}
 use Rattle.width.specs.LittleEndian.{little_endian, bytes_of}
-use Rattle.machine.specs.declared.memory.Located.{Located}
-use Rattle.machine.specs.declared.memory.Located.TheVariants.{At}
-use Rattle.machine.specs.declared.memory.Loaded.{Loaded}
-use Rattle.machine.specs.declared.memory.Loaded.TheVariants.{Value}
-use Rattle.machine.specs.declared.memory.Stored.{Stored}
-use Rattle.machine.specs.declared.memory.Stored.TheVariants.{Done}
 
 -- data lies at 00100000h upward
 unfoldable pub data_base : ℕ
@@ -24,8 +18,8 @@ unfoldable pub holds : ℕ → ℕ → ℕ → ℕ → Bool
 holds base len n a = nat_le base a && nat_le (a + n) (base + len)
 
 -- where an access lies in such an area, or that it does not
-unfoldable pub place_of : ℕ → ℕ → ℕ → ℕ → Located
-place_of base len n a = if holds base len n a then At (a - base) else Located.Outside
+unfoldable pub place_of : ℕ → ℕ → ℕ → ℕ → Option ℕ
+place_of base len n a = if holds base len n a then Some (a - base) else None
 
 -- the first address from a on that is not in such an area: its end if a is in it, else a itself; addresses wrap at 2^32
 unfoldable pub first_outside : ℕ → ℕ → ℕ → ℕ
@@ -55,6 +49,16 @@ read_of constants d n a =
 unfoldable pub held : Read → List ℕ
 held (part bytes) = bytes
 held (outside a) = []
+
+-- what a load comes to: the number, or the first address that is outside
+pub data Loaded : Type 0 where
+  Value : ℕ → Loaded
+  Outside : ℕ → Loaded
+
+-- what a store comes to: done, or the first address that is outside
+pub data Stored : Type 0 where
+  Done : Stored
+  Outside : ℕ → Stored
 
 -- the number that was read, the low byte first
 unfoldable pub numbered : Read → Loaded

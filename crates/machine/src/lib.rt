@@ -1,4 +1,4 @@
-// The machine as a value, its register parts, and the lent data that it reads and writes.
+//! The machine, changed in place, and the lent areas that it reads and writes.
 #![tactic(auto)]
 
 pub mod memory;

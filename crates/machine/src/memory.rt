@@ -1,210 +1,149 @@
-// The lent areas, data and constants: which of them holds an access, and what a load and a store do.
-ghost use Rattle.std.specs.Prelude.{◌≡◌, ◌+◌, ◌*◌, ◌%◌, ◌^◌, ◌≤◌, length};
+//! The lent areas: data, read and written, and constants, which are only read.
+ghost use Rattle.std.specs.Prelude.{◌≡◌, ◌+◌, ◌≤◌, length, OnErr, IfOk};
 ghost use Rattle.std.proofs.lemmas.List.Edits.{sets};
 ghost use Rattle.width.specs.Sizes.{bytes};
-ghost use Rattle.width.specs.Numbers.{Is};
 ghost use Rattle.width.specs.LittleEndian.{little_endian, bytes_of};
-ghost use Rattle.machine.specs.Memory.{
-  place_of,
-  first_outside,
-  first_unread,
-  read_of,
-  held,
-  load_of,
-  store_of,
-  stored_of,
-};
+ghost use Rattle.machine.specs.Memory.{place_of, first_outside, first_unread, read_of, load_of, stored_of, store_of};
+ghost use Rattle.machine.specs.Answers.{shown, loaded_as, stored_as, SameAreas};
 
 use width::Size;
 
-// Where an access lies in an area, or that it does not.
-#[derive(Clone, Copy)]
-enum Located {
-    At(usize),
-    Outside,
+/// An access that no area holds, by its first byte outside.
+#[derive(Clone, Copy, Debug, PartialEq, Eq)]
+pub struct Outside {
+    pub address: u32,
 }
 
-// What a load gives: the number, or the first address that is outside.
-#[derive(Clone, Copy)]
-pub enum Loaded {
-    Value(u32),
-    Outside(u32),
-}
-
-// What a store answers: done, or the first address that is outside.
-#[derive(Clone, Copy)]
-pub enum Stored {
-    Done,
-    Outside(u32),
-}
-
-// Where data lies, and upward.
+/// Where data lies, and upward.
 const DATA: u32 = 0x0010_0000;
 
-// Where constants lie, and upward.
+/// Where constants lie, and upward.
 const CONSTANTS: u32 = 0x0020_0000;
 
-// The place of an access of n bytes at address a in an area of so many bytes at a base.
-fn locate(base: u32, len: usize, n: usize, a: u32) -> Located
+/// Where an access of n bytes at address a begins in an area of so many bytes at a base.
+#[inline(always)]
+#[tactic(auto, unfolding(crate::specs::Memory::place_of, crate::specs::Memory::holds))]
+fn locate(base: u32, len: usize, n: usize, a: u32) -> Option<usize>
     ensures { result ≡ place_of base len n a }
 {
-    if a < base {
-        return Located::Outside;
+    let at = a.checked_sub(base)? as usize;
+    if at <= len.checked_sub(n)? {
+        Some(at)
+    } else {
+        None
     }
-    let at = (a - base) as usize;
-    if len < n {
-        return Located::Outside;
-    }
-    if len - n < at {
-        return Located::Outside;
-    }
-    Located::At(at)
 }
 
-// The address just past an area of so many bytes at a base.
-fn past(base: u32, len: usize) -> u32
-    ensures { result ≡ (base + len) % 2 ^ 32 }
-{
-    ((base as u64 + (len % 0x1_0000_0000) as u64) % 0x1_0000_0000) as u32
-}
-
-// The first address from a on that is not in an area of so many bytes at a base.
+/// The first address from a on that is not in an area of so many bytes at a base.
+#[tactic(auto, unfolding(crate::specs::Memory::first_outside, crate::specs::Memory::place_of, crate::specs::Memory::holds))]
 fn first_outside(base: u32, len: usize, a: u32) -> u32
     ensures { result ≡ first_outside base len a }
 {
-    if a < base {
-        return a;
+    match locate(base, len, 1, a) {
+        Some(_) => base.wrapping_add((len % 0x1_0000_0000) as u32),
+        None => a,
     }
-    if len <= (a - base) as usize {
-        return a;
-    }
-    past(base, len)
 }
 
-// A byte as a number.
-fn wide(b: u8) -> u32
-    ensures { Is Size.Byte b result }
-{
-    b as u32
-}
-
-// The number of a low and a high byte.
-fn pair(low: u8, high: u8) -> u32
-    ensures { Is Size.Word (low + 256 * high) result }
-{
-    wide(low) + 256 * wide(high)
-}
-
-// The number of a part of two bytes.
-fn word(part: &[u8]) -> u32
-    requires { length part.now ≡ 2 }
-    ensures { result ≡ little_endian part.now }
-{
-    pair(part[0], part[1])
-}
-
-// The number of a part of four bytes.
-fn dword(part: &[u8]) -> u32
-    requires { length part.now ≡ 4 }
-    ensures { result ≡ little_endian part.now }
-{
-    pair(part[0], part[1]) + 0x1_0000 * pair(part[2], part[3])
-}
-
-// The number of a part as long as the size.
+/// The number of as many bytes as the size has, the low byte first.
+#[inline(always)]
+#[tactic(auto, using(crate::proofs::Access::number_of_one, crate::proofs::Access::number_of_two, crate::proofs::Access::number_of_four), unfolding(width::specs::Sizes::bytes))]
 fn number(part: &[u8], w: Size) -> u32
     requires { length part.now ≡ bytes w }
     ensures { result ≡ little_endian part.now }
 {
     match w {
-        Size::Byte => wide(part[0]),
-        Size::Word => word(part),
-        Size::Dword => dword(part),
+        Size::Byte => u32::from(part[0]),
+        Size::Word => u32::from(u16::from_le_bytes([part[0], part[1]])),
+        Size::Dword => u32::from_le_bytes([part[0], part[1], part[2], part[3]]),
     }
 }
 
-// The bytes of a read of n bytes at address a, as a part of whichever of the two areas holds them; none where neither does.
-pub fn held<'a>(constants: &'a [u8], area: &'a [u8], n: usize, a: u32) -> &'a [u8]
-    ensures { result.now ≡ held (read_of constants.now area.now n a) }
-{
-    match locate(DATA, area.len(), n, a) {
-        Located::At(at) => &area[at..at + n],
-        Located::Outside => match locate(CONSTANTS, constants.len(), n, a) {
-            Located::At(at) => &constants[at..at + n],
-            Located::Outside => &constants[..0],
-        },
-    }
-}
-
-// The first address outside for a read at a: of the area that holds the byte there; where neither does, a itself.
-fn first_unread(constants: &[u8], area: &[u8], a: u32) -> u32
-    ensures { result ≡ first_unread constants.now area.now a }
-{
-    match locate(DATA, area.len(), 1, a) {
-        Located::At(_) => first_outside(DATA, area.len(), a),
-        Located::Outside => first_outside(CONSTANTS, constants.len(), a),
-    }
-}
-
-// A load of a number of the size.
-pub fn load<'a>(constants: &'a [u8], area: &'a [u8], w: Size, a: u32) -> Loaded
-    ensures { result ≡ load_of constants.now area.now w a }
-{
-    let part = held(constants, area, width::bytes(w), a);
-    if part.len() == 0 {
-        return Loaded::Outside(first_unread(constants, area, a));
-    }
-    Loaded::Value(number(part, w))
-}
-
-// A number's lowest byte.
-fn low_byte(v: u32) -> u8
-    ensures { result ≡ v % 256 }
-{
-    (v % 0x100) as u8
-}
-
-// The two low bytes of a number, from a place on.
-fn put_word(area: &mut [u8], at: usize, v: u32)
-    requires { at + 2 ≤ length area.old }
-    ensures { area.new ≡ sets area.old at (bytes_of 2 v) }
-{
-    area[at] = low_byte(v);
-    area[at + 1] = low_byte(v / 0x100);
-}
-
-// The four bytes of a number, from a place on.
-fn put_dword(area: &mut [u8], at: usize, v: u32)
-    requires { at + 4 ≤ length area.old }
-    ensures { area.new ≡ sets area.old at (bytes_of 4 v) }
-{
-    area[at] = low_byte(v);
-    area[at + 1] = low_byte(v / 0x100);
-    area[at + 2] = low_byte(v / 0x1_0000);
-    area[at + 3] = low_byte(v / 0x100_0000);
-}
-
-// The bytes of a number of the size, from a place on.
+/// The bytes of a number of the size, the low byte first, from a place on.
+#[inline(always)]
+#[tactic(auto, unfolding(width::specs::Sizes::bytes, width::specs::LittleEndian::bytes_of))]
 fn put(area: &mut [u8], at: usize, w: Size, v: u32)
     requires { at + bytes w ≤ length area.old }
     ensures { area.new ≡ sets area.old at (bytes_of (bytes w) v) }
 {
+    // Byte by byte: with `to_le_bytes` and `copy_from_slice` an arm's clause stays open.
     match w {
-        Size::Byte => area[at] = low_byte(v),
-        Size::Word => put_word(area, at, v),
-        Size::Dword => put_dword(area, at, v),
+        Size::Byte => area[at] = (v & 0xFF) as u8,
+        Size::Word => {
+            area[at] = (v % 0x100) as u8;
+            area[at + 1] = (v / 0x100 % 0x100) as u8;
+        }
+        Size::Dword => {
+            area[at] = (v % 0x100) as u8;
+            area[at + 1] = (v / 0x100 % 0x100) as u8;
+            area[at + 2] = (v / 0x1_0000 % 0x100) as u8;
+            area[at + 3] = (v / 0x100_0000 % 0x100) as u8;
+        }
     }
 }
 
-// A store of a number of the size.
-pub fn store(area: &mut [u8], w: Size, a: u32, v: u32) -> Stored
-    ensures { (result ≡ stored_of area.old w a) × (area.new ≡ store_of area.old w a v) }
-{
-    match locate(DATA, area.len(), width::bytes(w), a) {
-        Located::At(at) => {
-            put(area, at, w, v);
-            Stored::Done
+/// The areas that a run is lent: constants at 00200000h and data at 00100000h, upward.
+#[derive(Debug, Drop)]
+pub struct Memory<'a> {
+    pub constants: &'a [u8],
+    pub area: &'a mut [u8],
+}
+
+impl<'a> Memory<'a> {
+    /// The bytes of a read of n bytes at address a, as a part of whichever area holds all of them.
+    #[inline(always)]
+    #[tactic(auto, unfolding(crate::specs::Memory::read_of, crate::specs::Memory::part_of, crate::specs::Memory::place_of, crate::specs::Memory::holds, crate::specs::Memory::data_base, crate::specs::Memory::constants_base))]
+    pub fn read(&self, n: usize, a: u32) -> Result<&[u8], Outside>
+        ensures bytes { read_of self.now.constants.now self.now.area.now n a ≡ shown (λ part. part.now) result }
+        ensures long { IfOk result (λ part. length part.now ≡ n) }
+    {
+        if let Some(at) = locate(DATA, self.area.len(), n, a) {
+            return Ok(&self.area[at..at + n]);
         }
-        Located::Outside => Stored::Outside(first_outside(DATA, area.len(), a)),
+        if let Some(at) = locate(CONSTANTS, self.constants.len(), n, a) {
+            return Ok(&self.constants[at..at + n]);
+        }
+        Err(Outside {
+            address: self.first_unread(a),
+        })
+    }
+
+    /// The first address outside for a read at a: of the area that holds the byte there; where neither does, a itself.
+    #[tactic(auto, unfolding(crate::specs::Memory::first_unread, crate::specs::Memory::place_of, crate::specs::Memory::data_base, crate::specs::Memory::constants_base))]
+    fn first_unread(&self, a: u32) -> u32
+        ensures { result ≡ first_unread self.now.constants.now self.now.area.now a }
+    {
+        match locate(DATA, self.area.len(), 1, a) {
+            Some(_) => first_outside(DATA, self.area.len(), a),
+            None => first_outside(CONSTANTS, self.constants.len(), a),
+        }
+    }
+
+    /// A load of a number of the size.
+    // A call of its own: written out at each use it would take 3 KB of ROM more.
+    #[inline(never)]
+    #[tactic(auto, unfolding(crate::specs::Memory::load_of, crate::specs::Memory::numbered))]
+    pub fn load(&self, w: Size, a: u32) -> Result<u32, Outside>
+        ensures { load_of self.now.constants.now self.now.area.now w a ≡ loaded_as result }
+    {
+        let part = self.read(w.bytes(), a)?;
+        Ok(number(part, w))
+    }
+
+    /// A store of a number of the size, to data only; refused, it changes nothing.
+    #[tactic(auto, unfolding(crate::specs::Memory::stored_of, crate::specs::Memory::store_of, crate::specs::Memory::place_of, crate::specs::Memory::holds, crate::specs::Memory::data_base))]
+    pub fn store(&mut self, w: Size, a: u32, v: u32) -> Result<(), Outside>
+        ensures answer { stored_of self.old.area.now w a ≡ stored_as result }
+        ensures data { self.new.area.now ≡ store_of self.old.area.now w a v }
+        ensures err { OnErr result (self.new.area.now ≡ self.old.area.now) }
+        ensures same_areas { SameAreas self.old self.new }
+    {
+        let Some(at) = locate(DATA, self.area.len(), w.bytes(), a) else {
+            return Err(Outside {
+                address: first_outside(DATA, self.area.len(), a),
+            });
+        };
+        put(self.area, at, w, v);
+        Ok(())
     }
 }

@@ -6,7 +6,8 @@ use Rattle.width.specs.Numbers.{rest, sign_extended}
 use Rattle.grammar.specs.declared.instruction.Decoded.{Decoded}
 use Rattle.grammar.specs.Grammar.{mod_of, reg_of, rm_of}
 use Rattle.sense.specs.declared.Operation.{Operation}
-use Rattle.grammar.specs.declared.relative.Relative.{Relative}
+use Rattle.grammar.specs.Relative.{Relative}
+use Rattle.std.specs.Prelude.{None, Some}
 use Rattle.grammar.specs.Relative.{relative_of}
 use Rattle.sense.specs.Senses.{sense_of}
 use Rattle.sense.specs.Operations.{operation_of}
@@ -78,8 +79,8 @@ plan_for eip d s operation w target =
 
 -- where a displacement leads from the next instruction; with none, on
 unfoldable pub leads : Relative → ℕ → ℕ
-leads Relative.Absent next = next
-leads (Relative.By displacement) next = rest Dword (pos (next + displacement))
+leads None next = next
+leads (Some displacement) next = rest Dword (pos (next + displacement))
 
 -- the plan of a decoded instruction at an address
 unfoldable pub plan_of : ℕ → Decoded → Plan

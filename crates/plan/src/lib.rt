@@ -1,35 +1,36 @@
-// The plan of a step: which operation, at which size, on which operands, and where it goes on.
+//! The plan of a step: which operation, at which size, on which operands, and where it goes on.
 #![tactic(auto)]
 
-ghost use Rattle.std.specs.Prelude.{◌≡◌, ◌^◌, ◌<◌};
-ghost use Rattle.machine.specs.Lending.{Gives};
+ghost use Rattle.std.specs.Prelude.{◌≡◌, ◌%◌, ◌^◌};
 ghost use Rattle.plan.specs.Addresses.{scaled_index, base_register, address_base, effective_address};
 ghost use Rattle.plan.specs.Plans.{size_of, operand_of, is_offset, offset_alone, address_in, next_of, plan_for, leads, plan_of};
 
 use grammar::instruction::Decoded;
-use grammar::relative::Relative;
+use grammar::relative::relative_of;
 use grammar::rule::Repeat;
-use machine::registers::register;
+use machine::registers::{EAX, ECX, Machine};
+use sense::operations::operation;
+use sense::table::sense;
 use sense::{Operation, Place, Sense};
 use width::Size;
 
-// An operand: a part of a register, the memory at the effective address, or a number.
-#[derive(Clone, Copy)]
+/// An operand: a part of a register, the memory at the effective address, or a number.
+#[derive(Clone, Copy, Debug, PartialEq, Eq)]
 pub enum Operand {
     Register(u32),
     Memory,
     Number(u32),
 }
 
-// What an effective address is computed from.
-#[derive(Clone, Copy)]
+/// What an effective address is computed from.
+#[derive(Clone, Copy, Debug, PartialEq, Eq)]
 pub struct Address {
     pub modrm: u8,
     pub sib: u8,
     pub displacement: u32,
 }
 
-// What one step does, of its instruction and place alone.
+/// What one step does, of its instruction and place alone.
 #[derive(Clone, Copy)]
 pub struct Plan {
     pub operation: Operation,
@@ -38,68 +39,75 @@ pub struct Plan {
     pub source: Operand,
     pub other: Operand,
     pub repeat: Repeat,
-    // The address of the next instruction.
+    /// The address of the next instruction.
     pub next: u32,
-    // The address that a displacement leads to.
+    /// The address that a displacement leads to.
     pub target: u32,
-    // Where the operand in memory is.
+    /// Where the operand in memory is.
     pub address: Address,
 }
 
-// A SIB byte's index: the register times 1, 2, 4 or 8; index 4 is none.
-fn scaled_index(regs: &[u32; 8], sib: u8) -> u64
-    ensures { (Gives regs.now (λ m. scaled_index m sib) result) × (result < 2 ^ 35) }
+/// A SIB byte's index modulo 2^32: the register times 1, 2, 4 or 8; index 4 is none.
+#[tactic(auto, using(crate::proofs::Indexes::no_index, crate::proofs::Indexes::shifted))]
+fn scaled_index(m: &Machine, sib: u8) -> u32
+    ensures { result ≡ scaled_index m.now sib % 2 ^ 32 }
 {
-    let index = (sib / 8 % 8) as u32;
+    let index = u32::from(sib / 8 % 8);
     if index == 4 {
         return 0;
     }
-    (register(regs, index) as u64) << (sib / 64)
+    m.register(index) << (sib / 64)
 }
 
-// A base register by its number; with Mod 0 number 5 is none.
-fn base_register(regs: &[u32; 8], modrm: u8, i: u32) -> u32
-    ensures { Gives regs.now (λ m. base_register m modrm i) result }
+/// A base register by its number; with Mod 0 number 5 is none.
+#[tactic(auto, unfolding(crate::specs::Addresses::base_register))]
+fn base_register(m: &Machine, modrm: u8, i: u32) -> u32
+    ensures { result ≡ base_register m.now modrm i }
 {
-    if modrm / 64 != 0 {
-        return register(regs, i);
+    if modrm / 64 == 0 && i == 5 {
+        0
+    } else {
+        m.register(i)
     }
-    if i == 5 {
-        return 0;
-    }
-    register(regs, i)
 }
 
-// What the displacement is added to: with R/M 4 what the SIB byte says, else a base register.
-fn address_base(regs: &[u32; 8], modrm: u8, sib: u8) -> u64
-    ensures { (Gives regs.now (λ m. address_base m modrm sib) result) × (result < 2 ^ 36) }
+/// What the displacement is added to, modulo 2^32: with R/M 4 what the SIB byte says, else a base register.
+#[tactic(auto, unfolding(crate::specs::Addresses::address_base))]
+fn address_base(m: &Machine, modrm: u8, sib: u8) -> u32
+    ensures { result ≡ address_base m.now modrm sib % 2 ^ 32 }
 {
-    let rm = (modrm % 8) as u32;
+    let rm = u32::from(modrm % 8);
     if rm == 4 {
-        return base_register(regs, modrm, (sib % 8) as u32) as u64 + scaled_index(regs, sib);
+        let base = base_register(m, modrm, u32::from(sib % 8));
+        return base.wrapping_add(scaled_index(m, sib));
     }
-    base_register(regs, modrm, rm) as u64
+    base_register(m, modrm, rm)
 }
 
-// The effective address.
-pub fn effective_address(regs: &[u32; 8], a: Address) -> u32
-    ensures { Gives regs.now (λ m. effective_address m a) result }
+/// The effective address, from the registers before the instruction.
+#[tactic(auto, unfolding(crate::specs::Addresses::effective_address, width::specs::Numbers::rest, width::specs::Numbers::residue, width::specs::Sizes::modulus, width::specs::Sizes::bits))]
+pub fn effective_address(m: &Machine, a: Address) -> u32
+    ensures { result ≡ effective_address m.now a }
 {
-    let base = address_base(regs, a.modrm, a.sib);
-    width::low(Size::Dword, base + a.displacement as u64)
+    address_base(m, a.modrm, a.sib).wrapping_add(a.displacement)
 }
 
-// Bytes; else words under 66, and doublewords without.
+/// Bytes; else words under 66, and doublewords without.
+#[tactic(auto, unfolding(crate::specs::Plans::size_of))]
 pub fn size_of(byte: bool, narrow: bool) -> Size
     ensures { result ≡ size_of byte narrow }
 {
     if byte {
-        return Size::Byte;
+        Size::Byte
+    } else if narrow {
+        Size::Word
+    } else {
+        Size::Dword
     }
-    if narrow { Size::Word } else { Size::Dword }
 }
 
-// The operand at a place.
+/// The operand at a place.
+#[tactic(auto, unfolding(crate::specs::Plans::operand_of))]
 pub fn operand_at(place: Place, d: Decoded, w: Size) -> Operand
     ensures { result ≡ operand_of place d w }
 {
@@ -107,23 +115,24 @@ pub fn operand_at(place: Place, d: Decoded, w: Size) -> Operand
         Place::Absent => Operand::Number(0),
         Place::Rm => {
             if d.modrm / 64 == 3 {
-                Operand::Register((d.modrm % 8) as u32)
+                Operand::Register(u32::from(d.modrm % 8))
             } else {
                 Operand::Memory
             }
         }
-        Place::Reg => Operand::Register((d.modrm / 8 % 8) as u32),
-        Place::Accumulator => Operand::Register(0),
+        Place::Reg => Operand::Register(u32::from(d.modrm / 8 % 8)),
+        Place::Accumulator => Operand::Register(EAX),
         Place::OpcodeRegister => Operand::Register((d.opcode % 8) as u32),
         Place::Immediate => Operand::Number(d.immediate),
-        Place::SignedImmediate => Operand::Number(width::sign_extended(Size::Byte, w, d.immediate)),
+        Place::SignedImmediate => Operand::Number(Size::Byte.sign_extended(w, d.immediate)),
         Place::Offset => Operand::Memory,
         Place::One => Operand::Number(1),
-        Place::Cl => Operand::Register(1),
+        Place::Cl => Operand::Register(ECX),
     }
 }
 
-// The immediate as a displacement alone: Mod 0 and R/M 5.
+/// The immediate as a displacement alone: Mod 0 and R/M 5.
+#[tactic(auto, unfolding(crate::specs::Plans::offset_alone))]
 fn offset_alone(immediate: u32) -> Address
     ensures { result ≡ offset_alone immediate }
 {
@@ -134,34 +143,20 @@ fn offset_alone(immediate: u32) -> Address
     }
 }
 
-// Whether a place is memory at an offset, the immediate.
+/// Whether a place is memory at an offset, the immediate.
+#[tactic(auto, unfolding(crate::specs::Plans::is_offset))]
 fn is_offset(place: Place) -> bool
     ensures { result ≡ is_offset place }
 {
-    match place {
-        Place::Absent
-        | Place::Rm
-        | Place::Reg
-        | Place::Accumulator
-        | Place::OpcodeRegister
-        | Place::Immediate
-        | Place::SignedImmediate
-        | Place::One
-        | Place::Cl => false,
-        Place::Offset => true,
-    }
+    matches!(place, Place::Offset)
 }
 
-// What the effective address is computed from: the offset alone, as a displacement; else the instruction's ModR/M, SIB and displacement.
+/// What the effective address is computed from: the offset alone, as a displacement; else the instruction's ModR/M, SIB and displacement.
+#[tactic(auto, unfolding(crate::specs::Plans::address_in))]
 fn address_in(s: Sense, d: Decoded) -> Address
     ensures { result ≡ address_in s d }
 {
-    let destination = s.destination;
-    let source = s.source;
-    if is_offset(destination) {
-        return offset_alone(d.immediate);
-    }
-    if is_offset(source) {
+    if is_offset(s.destination) || is_offset(s.source) {
         return offset_alone(d.immediate);
     }
     Address {
@@ -171,53 +166,50 @@ fn address_in(s: Sense, d: Decoded) -> Address
     }
 }
 
-// The address of the next instruction.
+/// The address of the next instruction.
+#[tactic(auto, unfolding(crate::specs::Plans::next_of, width::specs::Numbers::rest, width::specs::Numbers::residue, width::specs::Sizes::modulus, width::specs::Sizes::bits))]
 pub fn next_of(eip: u32, d: Decoded) -> u32
     ensures { result ≡ next_of eip d }
 {
-    let size = (d.length % 0x1_0000_0000) as u64;
-    width::low(Size::Dword, eip as u64 + size)
+    eip.wrapping_add((d.length % 0x1_0000_0000) as u32)
 }
 
-// The plan, from what the opcode means, its operation and its size.
+/// The plan, from what the opcode means, its operation and its size.
+#[tactic(auto, unfolding(crate::specs::Plans::plan_for))]
 pub fn plan_for(eip: u32, d: Decoded, s: Sense, operation: Operation, w: Size, target: u32) -> Plan
     ensures { result ≡ plan_for eip d s operation w target }
 {
-    let destination = s.destination;
-    let source = s.source;
-    let other = s.other;
-    let repeat = d.repeat;
     Plan {
         operation,
         size: w,
-        destination: operand_at(destination, d, w),
-        source: operand_at(source, d, w),
-        other: operand_at(other, d, w),
-        repeat,
+        destination: operand_at(s.destination, d, w),
+        source: operand_at(s.source, d, w),
+        other: operand_at(s.other, d, w),
+        repeat: d.repeat,
         next: next_of(eip, d),
         target,
         address: address_in(s, d),
     }
 }
 
-// Where a displacement leads from the next instruction; with none, on.
-fn lead(relative: Relative, next: u32) -> u32
+/// Where a displacement leads from the next instruction; with none, on.
+#[tactic(auto, unfolding(crate::specs::Plans::leads, width::specs::Numbers::rest, width::specs::Numbers::residue, width::specs::Sizes::modulus, width::specs::Sizes::bits))]
+fn lead(relative: Option<u32>, next: u32) -> u32
     ensures { result ≡ leads relative next }
 {
     match relative {
-        Relative::Absent => next,
-        Relative::By(displacement) => width::low(Size::Dword, next as u64 + displacement as u64),
+        None => next,
+        Some(displacement) => next.wrapping_add(displacement),
     }
 }
 
-// The plan of a decoded instruction at an address.
+/// The plan of a decoded instruction at an address.
+#[tactic(auto, unfolding(crate::specs::Plans::plan_of))]
 pub fn plan_of(eip: u32, d: Decoded) -> Plan
     ensures { result ≡ plan_of eip d }
 {
-    let s = sense::table::sense(d.opcode);
-    let kind = s.kind;
-    let operation = sense::operations::operation(kind, d.opcode, (d.modrm / 8 % 8) as u32);
-    let w = size_of(s.byte, d.narrow);
-    let target = lead(grammar::relative::relative_of(d), next_of(eip, d));
-    plan_for(eip, d, s, operation, w, target)
+    let s = sense(d.opcode);
+    let operation = operation(s.kind, d.opcode, u32::from(d.modrm / 8 % 8));
+    let target = lead(relative_of(d), next_of(eip, d));
+    plan_for(eip, d, s, operation, size_of(s.byte, d.narrow), target)
 }

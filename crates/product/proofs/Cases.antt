@@ -1,15 +1,14 @@
 -- Document 01's cases 4, 5 and 6, as far as they are arithmetic. Assumes nothing.
-use Rattle.std.proofs.Common.{◌≡◌, ℕ, List, [], ◌∷◌, refl}
+use Rattle.std.proofs.Common.{◌≡◌, ℕ, List, [], ◌∷◌, Option, None, Some, refl}
 use Rattle.width.specs.declared.Size.TheVariants.{Dword}
 use Rattle.width.specs.Sizes.{bits, modulus, half}
 use Rattle.width.specs.Numbers.{residue, rest, meaning, signed, outside}
-use Rattle.product.specs.declared.Division.{Division}
-use Rattle.product.specs.declared.Division.TheVariants.{Parts, Fault}
+use Rattle.product.specs.declared.Parts.{Parts}
 use Rattle.product.specs.Divide.{joined, divided, divided_unsigned, divided_signed, unsigned_division, signed_division}
 
 -- a division at 32 bits, and what it answers
 pub data DivisionCase : Type 0 where
-  DIV IDIV : (edx eax ecx : ℕ) → Division → DivisionCase
+  DIV IDIV : (edx eax ecx : ℕ) → Option Parts → DivisionCase
 
 -- the specification answers as the case says
 unfoldable pub Holds : DivisionCase → Type 0
@@ -24,9 +23,9 @@ All (c ∷ cs) = Holds c × All cs
 -- cases 4, 5 and 6
 unfoldable pub cases : List DivisionCase
 cases =
-    DIV 0x0000_0001 0x0000_0000 0x0000_0001 Fault
-    ∷ IDIV 0x8000_0000 0x0000_0000 0xFFFF_FFFF Fault
-    ∷ IDIV 0xFFFF_FFFF 0xFFFF_FFF9 0x0000_0002 (Parts 0xFFFF_FFFD 0xFFFF_FFFF)
+    DIV 0x0000_0001 0x0000_0000 0x0000_0001 None
+    ∷ IDIV 0x8000_0000 0x0000_0000 0xFFFF_FFFF None
+    ∷ IDIV 0xFFFF_FFFF 0xFFFF_FFF9 0x0000_0002 (Some (record { quotient = 0xFFFF_FFFD; remainder = 0xFFFF_FFFF }))
     ∷ []
 
 -- every case of the table holds

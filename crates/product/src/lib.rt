@@ -1,4 +1,4 @@
-// Products with both halves, and division of a dividend of twice the size, with their flags.
+//! Products with both halves, and division of a dividend of twice the size, with their flags.
 #![tactic(auto)]
 
 ghost use Rattle.std.specs.Prelude.{◌≡◌, ◌+◌, ◌*◌, ◌/◌, ◌^◌, ◌<◌, pos, int_div, int_rem};
@@ -25,28 +25,36 @@ ghost use Rattle.product.specs.Divide.{
 use flags::Flags;
 use width::Size;
 
-// A product's two halves.
-#[derive(Clone, Copy)]
+/// A product's two halves.
+#[derive(Clone, Copy, Debug, PartialEq, Eq)]
 pub struct Product {
     pub low: u32,
     pub high: u32,
 }
 
-// What a division answers: quotient and remainder, or that the divisor is 0 or the quotient doesn't fit.
-#[derive(Clone, Copy)]
-pub enum Division {
-    Parts { quotient: u32, remainder: u32 },
-    Fault,
+/// What a division gives.
+#[derive(Clone, Copy, Debug, PartialEq, Eq)]
+pub struct Parts {
+    pub quotient: u32,
+    pub remainder: u32,
 }
 
-// A signed number by its sign and its magnitude.
-#[derive(Clone, Copy)]
+/// A signed number by its sign and its magnitude: it lies between -2^63 and 2^64, which no `i64` holds.
+#[derive(Clone, Copy, Debug, PartialEq, Eq)]
 struct Signed {
     negative: bool,
     magnitude: u64,
 }
 
-// What v means as a signed number, where h is the least number whose sign bit is set.
+/// A number, taken at the size.
+#[inline(always)]
+fn taken(w: Size, v: u32) -> u64
+    ensures { Is w (rest w (pos v)) result }
+{
+    u64::from(w.low(u64::from(v)))
+}
+
+/// What v means as a signed number, where h is the least number whose sign bit is set.
 fn meaning(h: u64, v: u64) -> Signed
     requires { v < h + h }
     ensures { Represents (meaning h v) h result }
@@ -64,81 +72,99 @@ fn meaning(h: u64, v: u64) -> Signed
     }
 }
 
-// An operand, taken at the size, as a signed number.
+impl Signed {
+    /// A signed number's rest modulo 2 ^ 64.
+    fn complement(self) -> u64
+        ensures { result ≡ residue (2 ^ 64) (integer self) }
+    {
+        if self.negative {
+            0u64.wrapping_sub(self.magnitude)
+        } else {
+            self.magnitude
+        }
+    }
+
+    /// A signed number's rest at the size.
+    fn rest(self, w: Size) -> u32
+        ensures { Is w (rest w (integer self)) result }
+    {
+        w.low(self.complement())
+    }
+
+    /// Is it no signed number of the size?
+    fn outside(self, w: Size) -> bool
+        ensures { result ≡ outside w (integer self) }
+    {
+        if self.negative {
+            w.outside(0, self.magnitude)
+        } else {
+            w.outside(self.magnitude, 0)
+        }
+    }
+
+    /// The quotient, truncated toward zero.
+    fn quotient(self, d: Signed) -> Signed
+        requires { 0 < d.magnitude }
+        ensures { integer result ≡ int_div (integer self) (integer d) }
+    {
+        Signed {
+            negative: self.negative != d.negative,
+            magnitude: self.magnitude / d.magnitude,
+        }
+    }
+
+    /// The remainder, with the dividend's sign.
+    fn remainder(self, d: Signed) -> Signed
+        requires { 0 < d.magnitude }
+        ensures { integer result ≡ int_rem (integer self) (integer d) }
+    {
+        Signed {
+            negative: self.negative,
+            magnitude: self.magnitude % d.magnitude,
+        }
+    }
+}
+
+/// An operand, taken at the size, as a signed number.
 fn operand(w: Size, v: u32) -> Signed
     ensures { Represents (signed w (rest w (pos v))) (half w) result }
 {
-    meaning(width::half(w) as u64, width::low(w, v as u64) as u64)
+    meaning(u64::from(w.half()), taken(w, v))
 }
 
-// A signed number's rest modulo 2 ^ 64.
-fn complement(z: Signed) -> u64
-    ensures { result ≡ residue (2 ^ 64) (integer z) }
-{
-    if z.negative {
-        std::num::wrapping_sub_u64(0, z.magnitude)
-    } else {
-        z.magnitude
-    }
-}
-
-// A signed number's rest at the size.
-fn rest(w: Size, z: Signed) -> u32
-    ensures { Is w (rest w (integer z)) result }
-{
-    width::low(w, complement(z))
-}
-
-// Is it no signed number of the size?
-fn outside(w: Size, z: Signed) -> bool
-    ensures { result ≡ outside w (integer z) }
-{
-    if z.negative {
-        width::outside(w, 0, z.magnitude)
-    } else {
-        width::outside(w, z.magnitude, 0)
-    }
-}
-
-// What stands above the low half, at the size.
+/// What stands above the low half, at the size.
 fn upper(w: Size, n: u64) -> u32
     ensures { Is w (rest w (pos (n / modulus w))) result }
 {
-    match w {
-        Size::Byte => width::low(w, n / 0x100),
-        Size::Word => width::low(w, n / 0x1_0000),
-        Size::Dword => width::low(w, n / 0x1_0000_0000),
-    }
+    w.low(n / w.modulus())
 }
 
-// A number's two halves.
+/// A number's two halves.
 fn halves(w: Size, n: u64) -> Product
     ensures { Halves w (pos n) result }
 {
     Product {
-        low: width::low(w, n),
+        low: w.low(n),
         high: upper(w, n),
     }
 }
 
-// MUL: the unsigned product's two halves.
+// MUL and IMUL, DIV and IDIV stay apart: unsigned and signed numbers share no step but `halves`, `taken` and `joined`.
+/// MUL: the unsigned product's two halves.
 pub fn mul(w: Size, a: u32, b: u32) -> Product
     ensures { Halves w (unsigned_product w a b) result }
 {
-    halves(
-        w,
-        width::low(w, a as u64) as u64 * width::low(w, b as u64) as u64,
-    )
+    halves(w, taken(w, a) * taken(w, b))
 }
 
-// Does MUL set CF and OF?
+/// Does MUL set CF and OF?
 pub fn mul_spills(w: Size, a: u32, b: u32) -> bool
     ensures { result ≡ unsigned_spills w a b }
 {
     mul(w, a, b).high != 0
 }
 
-// The signed product of two operands.
+/// The signed product of two operands.
 fn signed_product(w: Size, a: u32, b: u32) -> Signed
     ensures { integer result ≡ signed_product w a b }
 {
@@ -150,116 +176,84 @@ fn signed_product(w: Size, a: u32, b: u32) -> Signed
     }
 }
 
-// IMUL: the signed product's two halves; the low one alone is the result of the forms with two and three operands.
+/// IMUL: the signed product's two halves; the low one alone is the result of the forms with two and three operands.
 pub fn imul(w: Size, a: u32, b: u32) -> Product
     ensures { Halves w (signed_product w a b) result }
 {
-    halves(w, complement(signed_product(w, a, b)))
+    halves(w, signed_product(w, a, b).complement())
 }
 
-// Does IMUL set CF and OF?
+/// Does IMUL set CF and OF?
 pub fn imul_spills(w: Size, a: u32, b: u32) -> bool
     ensures { result ≡ signed_spills w a b }
 {
-    outside(w, signed_product(w, a, b))
+    signed_product(w, a, b).outside(w)
 }
 
-// The flags after a product.
+/// The flags after a product.
 pub fn product_flags(spills: bool, old: Flags) -> Flags
     ensures { result ≡ product_flags spills old }
 {
     Flags {
         cf: spills,
-        pf: flags::undefined(old.pf),
-        af: flags::undefined(old.af),
-        zf: flags::undefined(old.zf),
-        sf: flags::undefined(old.sf),
-        df: old.df,
         of: spills,
+        ..flags::all_undefined(old)
     }
 }
 
-// A dividend's two halves, taken at the size, joined.
+/// A dividend's two halves, taken at the size, joined.
 fn joined(w: Size, high: u32, low: u32) -> u64
     ensures { Twice w (joined w high low) result }
 {
-    width::low(w, high as u64) as u64 * width::modulus(w) + width::low(w, low as u64) as u64
+    taken(w, high) * w.modulus() + taken(w, low)
 }
 
-// The same as a signed number.
+/// The same as a signed number.
 fn dividend(w: Size, high: u32, low: u32) -> Signed
     ensures { Represents (meaning (half w * modulus w) (joined w high low)) (half w * modulus w) result }
 {
-    meaning(
-        width::half(w) as u64 * width::modulus(w),
-        joined(w, high, low),
-    )
+    meaning(u64::from(w.half()) * w.modulus(), joined(w, high, low))
 }
 
-// DIV of a number by another.
-fn divided_unsigned(w: Size, n: u64, d: u64) -> Division
+/// DIV of a number by another.
+fn divided_unsigned(w: Size, n: u64, d: u64) -> Option<Parts>
     ensures { Divides w (divided_unsigned w n d) result }
 {
-    if d == 0 {
-        return Division::Fault;
+    if d == 0 || w.modulus() <= n / d {
+        return None;
     }
-    if width::modulus(w) <= n / d {
-        return Division::Fault;
-    }
-    Division::Parts {
-        quotient: width::low(w, n / d),
-        remainder: width::low(w, n % d),
-    }
+    Some(Parts {
+        quotient: w.low(n / d),
+        remainder: w.low(n % d),
+    })
 }
 
-// DIV of high:low by d.
-pub fn div(w: Size, high: u32, low: u32, d: u32) -> Division
+/// DIV of high:low by d.
+pub fn div(w: Size, high: u32, low: u32, d: u32) -> Option<Parts>
     ensures { Divides w (unsigned_division w high low d) result }
 {
-    divided_unsigned(w, joined(w, high, low), width::low(w, d as u64) as u64)
+    divided_unsigned(w, joined(w, high, low), taken(w, d))
 }
 
-// The quotient, truncated toward zero.
-fn quotient(n: Signed, d: Signed) -> Signed
-    requires { 0 < d.magnitude }
-    ensures { integer result ≡ int_div (integer n) (integer d) }
-{
-    Signed {
-        negative: n.negative != d.negative,
-        magnitude: n.magnitude / d.magnitude,
-    }
-}
-
-// The remainder, with the dividend's sign.
-fn remainder(n: Signed, d: Signed) -> Signed
-    requires { 0 < d.magnitude }
-    ensures { integer result ≡ int_rem (integer n) (integer d) }
-{
-    Signed {
-        negative: n.negative,
-        magnitude: n.magnitude % d.magnitude,
-    }
-}
-
-// IDIV of a signed number by another.
-fn divided_signed(w: Size, n: Signed, d: Signed) -> Division
+/// IDIV of a signed number by another.
+fn divided_signed(w: Size, n: Signed, d: Signed) -> Option<Parts>
     ensures { Divides w (divided_signed w (integer n) (integer d)) result }
 {
     if d.magnitude == 0 {
-        return Division::Fault;
+        return None;
     }
-    let q = quotient(n, d);
-    if outside(w, q) {
-        return Division::Fault;
+    let q = n.quotient(d);
+    if q.outside(w) {
+        return None;
     }
-    Division::Parts {
-        quotient: rest(w, q),
-        remainder: rest(w, remainder(n, d)),
-    }
+    Some(Parts {
+        quotient: q.rest(w),
+        remainder: n.remainder(d).rest(w),
+    })
 }
 
-// IDIV of high:low by d.
-pub fn idiv(w: Size, high: u32, low: u32, d: u32) -> Division
+/// IDIV of high:low by d.
+pub fn idiv(w: Size, high: u32, low: u32, d: u32) -> Option<Parts>
     ensures { Divides w (signed_division w high low d) result }
 {
     divided_signed(w, dividend(w, high, low), operand(w, d))

@@ -6,21 +6,18 @@ use Prim.Native.Nat.{ℕ, ◌-◌}
 use lib.Dec.{eqb}
 use Rattle.scalar.specs.declared.Xmm.{Xmm}
 use Rattle.machine.specs.declared.registers.Machine.{Machine}
-use Rattle.machine.specs.declared.memory.Stored.{Stored}
-use Rattle.machine.specs.declared.memory.Stored.TheVariants.{Done}
+use Rattle.machine.specs.Memory.{Stored, Done, stored_of}
 use Rattle.machine.specs.Registers.{with_xmm}
-use Rattle.machine.specs.Memory.{stored_of}
 use Rattle.grammar.specs.Decoding.{decode_of}
 use Rattle.grammar.specs.declared.instruction.Decoded.{Decoded}
-use Rattle.grammar.specs.declared.instruction.Found.{Found}
+use Rattle.grammar.specs.Answers.{Found}
+use Rattle.std.specs.Prelude.{Ok, Err}
+use Rattle.grammar.specs.declared.instruction.Fault.{Fault}
 use Rattle.blockcheck.specs.Blocks.{code_base}
 use Rattle.plan.specs.declared.Plan.{Plan}
 use Rattle.plan.specs.Plans.{plan_of}
-use Rattle.effect.specs.declared.outcome.Outcome.{Outcome}
-use Rattle.effect.specs.declared.outcome.Outcome.TheVariants.{Becomes, Writes, Sets, Faults}
-use Rattle.effect.specs.declared.outcome.Reads.{Reads}
-use Rattle.effect.specs.Outcomes.{Effect}
-use Rattle.effect.specs.Changes.{framed}
+use Rattle.effect.specs.Outcomes.{Outcome, Becomes, Writes, Sets, Faults, Reads, Effect}
+use Rattle.effect.specs.Framed.{framed}
 use Rattle.effect.specs.Singles.{on_singles}
 use Rattle.effect.specs.All.{reads_by, effect_by}
 use Rattle.effect.proofs.Choosing.{chosen_both}
@@ -72,12 +69,12 @@ module _ (xmm : List Xmm) (m : Machine) (d : List ℕ) where
 
 module _ (fixed : Fixed) (xmm : List Xmm) (m : Machine) (d : List ℕ) where
   -- what is found at EIP
-  executed_beside : (f : Found) → ((i : Decoded) → f ≡ Found.Instruction i → on_singles (plan_of m.eip i).operation ≡ false)
+  executed_beside : (f : Found) → ((i : Decoded) → f ≡ Ok i → on_singles (plan_of m.eip i).operation ≡ false)
       → executed fixed f (with_xmm m xmm) d ≡ beside xmm (executed fixed f m d)
   unfolding with_xmm executed beside
-  executed_beside (Found.Instruction i) plain = planned_beside xmm m d (plan_of m.eip i) (plain i refl) fixed.constants
-  executed_beside Found.Cut plain = refl
-  executed_beside Found.Unknown plain = refl
+  executed_beside (Ok i) plain = planned_beside xmm m d (plan_of m.eip i) (plain i refl) fixed.constants
+  executed_beside (Err Fault.Cut) plain = refl
+  executed_beside (Err Fault.Unknown) plain = refl
 
   -- the step of any other instruction does the same whatever the singles are, and leaves them as they are
   pub step_beside : Plain fixed m → step_of fixed (with_xmm m xmm) d ≡ beside xmm (step_of fixed m d)

@@ -8,7 +8,9 @@ use lib.ListN.{length}
 use Rattle.machine.specs.declared.registers.Machine.{Machine}
 use Rattle.machine.specs.Registers.{with_xmm}
 use Rattle.grammar.specs.Decoding.{decode_of}
-use Rattle.grammar.specs.declared.instruction.Found.{Found}
+use Rattle.grammar.specs.Answers.{Found}
+use Rattle.std.specs.Prelude.{Ok, Err}
+use Rattle.grammar.specs.declared.instruction.Fault.{Fault}
 use Rattle.blockcheck.specs.Blocks.{code_base}
 use Rattle.plan.specs.Plans.{plan_of}
 use Rattle.effect.proofs.Ways.{regs_kept}
@@ -25,13 +27,13 @@ pub data Keeps (m : Machine) (d : List ℕ) : Moved → Type 0 where
 
 executed_keeps : (fixed : Fixed) (f : Found) (m : Machine) (d : List ℕ) → Keeps m d (executed fixed f m d)
 unfolding executed with_xmm
-executed_keeps fixed (Found.Instruction i) m d = from (planned_comes fixed.constants (plan_of m.eip i) m d)
+executed_keeps fixed (Ok i) m d = from (planned_comes fixed.constants (plan_of m.eip i) m d)
   where
     from : {a : ℕ} {v : Moved} → Comes (plan_of m.eip i) m a d v → Keeps m d v
     from {a} (goes_on r s xmm k l) = moves (record { registers = regs_kept (plan_of m.eip i).operation m (plan_of m.eip i) a r s; singles = k; long = l })
     from (Comes.stops n low high) = stops
-executed_keeps fixed Found.Cut m d = stops
-executed_keeps fixed Found.Unknown m d = stops
+executed_keeps fixed (Err Fault.Cut) m d = stops
+executed_keeps fixed (Err Fault.Unknown) m d = stops
 
 -- a step keeps both
 pub step_keeps : (fixed : Fixed) (m : Machine) (d : List ℕ) → Keeps m d (step_of fixed m d)

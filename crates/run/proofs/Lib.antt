@@ -12,3 +12,4 @@ pub mod Law
 pub mod Unreadable
 pub mod Repeated
 pub mod Outside
+pub mod Unique

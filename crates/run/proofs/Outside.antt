@@ -10,20 +10,16 @@ use borrow.Author.Tests.{ne_eqb, ltb-false}
 use Rattle.width.specs.declared.Size.{Size}
 use Rattle.flags.specs.Word.{passes}
 use Rattle.machine.specs.declared.registers.Machine.{Machine}
-use Rattle.machine.specs.declared.memory.Loaded.{Loaded}
-use Rattle.machine.specs.declared.memory.Stored.{Stored}
-use Rattle.machine.specs.declared.memory.Stored.TheVariants.{Done}
-use Rattle.machine.specs.Memory.{load_of, stored_of}
+use Rattle.machine.specs.Memory.{Loaded, Stored, Done, load_of, stored_of}
 use Rattle.machine.specs.Allowed.{Readable, in_data, in_constants, Writable}
 use Rattle.machine.proofs.Outside.{unread_outside, load_given, store_given}
 use Rattle.grammar.specs.Decoding.{decode_of}
-use Rattle.grammar.specs.declared.instruction.Found.{Found}
+use Rattle.grammar.specs.Answers.{Found}
+use Rattle.std.specs.Prelude.{Ok, Err}
+use Rattle.grammar.specs.declared.instruction.Fault.{Fault}
 use Rattle.blockcheck.specs.Blocks.{code_base}
 use Rattle.plan.specs.declared.Plan.{Plan}
-use Rattle.effect.specs.declared.outcome.Outcome.{Outcome}
-use Rattle.effect.specs.declared.outcome.Outcome.TheVariants.{Becomes, Writes, Sets, Faults}
-use Rattle.effect.specs.Outcomes.{Effect}
-use Rattle.effect.specs.declared.outcome.Reads.{Reads}
+use Rattle.effect.specs.Outcomes.{Outcome, Becomes, Writes, Sets, Faults, Effect, Reads}
 use Rattle.effect.proofs.Choosing.{chosen}
 use Rattle.run.specs.declared.Lent.{Lent}
 use Rattle.run.specs.Steps.{Fixed, Moved, next, stop, home, inside, stored, committed, finished, performed, planned, executed, step_of}
@@ -85,9 +81,9 @@ module _ (fixed : Fixed) (long' : length fixed.constants ≤ 65_536) where
   -- with what was found at EIP
   executed_stops : (f : Found) (m : Machine) (d : List ℕ) → length d ≤ 65_536 → Stops fixed.constants d (executed fixed f m d)
   unfolding executed planned
-  executed_stops (Found.Instruction i) m d long = performed_stops fixed.constants d long long' _ _ m _
-  executed_stops Found.Cut m d long = stops 3 (silent (λ e. omega arith) (λ e. omega arith))
-  executed_stops Found.Unknown m d long = stops 4 (silent (λ e. omega arith) (λ e. omega arith))
+  executed_stops (Ok i) m d long = performed_stops fixed.constants d long long' _ _ m _
+  executed_stops (Err Fault.Cut) m d long = stops 3 (silent (λ e. omega arith) (λ e. omega arith))
+  executed_stops (Err Fault.Unknown) m d long = stops 4 (silent (λ e. omega arith) (λ e. omega arith))
 
   -- with a step
   step_stops : (m : Machine) (d : List ℕ) → length d ≤ 65_536 → Stops fixed.constants d (step_of fixed m d)

@@ -6,14 +6,12 @@ use native.Mathlib.Omega.{arith}
 use lib.ListN.{length}
 use Rattle.scalar.specs.declared.Xmm.{Xmm}
 use Rattle.machine.specs.declared.registers.Machine.{Machine}
-use Rattle.machine.specs.declared.memory.Stored.{Stored}
-use Rattle.machine.specs.declared.memory.Stored.TheVariants.{Done}
+use Rattle.machine.specs.Memory.{Stored, Done}
 use Rattle.machine.specs.Registers.{with_xmm, with_single}
 use Rattle.machine.proofs.Access.{store_length}
 use Rattle.machine.proofs.Lists.{put_length}
 use Rattle.plan.specs.declared.Plan.{Plan}
-use Rattle.effect.specs.declared.outcome.Outcome.{Outcome}
-use Rattle.effect.specs.declared.outcome.Outcome.TheVariants.{Becomes, Writes, Sets, Faults}
+use Rattle.effect.specs.Outcomes.{Outcome, Becomes, Writes, Sets, Faults}
 use Rattle.effect.specs.All.{effect_by}
 use Rattle.effect.proofs.Framing.{singles_kept}
 use Rattle.run.specs.Steps.{Moved, next, stop, stored, committed, finished, operand_address, planned}

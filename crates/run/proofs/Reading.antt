@@ -4,12 +4,9 @@ use mathlib.Core.List.{List}
 use Prim.Native.Nat.{ℕ}
 use Rattle.width.specs.declared.Size.{Size}
 use Rattle.machine.specs.declared.registers.Machine.{Machine}
-use Rattle.machine.specs.declared.memory.Loaded.{Loaded}
-use Rattle.machine.specs.declared.memory.Loaded.TheVariants.{Value}
-use Rattle.machine.specs.Memory.{load_of}
+use Rattle.machine.specs.Memory.{Loaded, Value, load_of}
 use Rattle.plan.specs.declared.Plan.{Plan}
-use Rattle.effect.specs.declared.outcome.Reads.{Reads}
-use Rattle.effect.specs.declared.outcome.Reads.TheVariants.{Nothing, One, Two}
+use Rattle.effect.specs.Outcomes.{Reads, Nothing, One, Two}
 use Rattle.run.specs.Steps.{Moved, stop, finished, loaded, performed}
 
 -- r is what the first read gives, 0 where nothing is read

@@ -21,8 +21,7 @@ use Rattle.sense.specs.declared.Strings.{Strings}
 use Rattle.sense.specs.declared.Operation.{Operation}
 use Rattle.plan.specs.declared.Plan.{Plan}
 use Rattle.plan.specs.Plans.{next_of, plan_for, plan_of}
-use Rattle.effect.specs.Outcomes.{Effect}
-use Rattle.effect.specs.declared.outcome.Reads.TheVariants.{Nothing}
+use Rattle.effect.specs.Outcomes.{Effect, Nothing}
 use Rattle.effect.specs.Words.{becomes, onward}
 use Rattle.effect.specs.Branches.{ecx}
 use Rattle.effect.specs.Strings.{idle, string_reads, string_effect}

@@ -9,7 +9,9 @@ use lib.Dec.{leb, ltb, eqb}
 use lib.ListN.{length}
 use borrow.Author.Tests.{eqb-true, eqb-false, leb-true, leb-false, ltb-true, ltb-false}
 use Rattle.machine.specs.declared.registers.Machine.{Machine}
-use Rattle.grammar.specs.declared.instruction.Found.{Found}
+use Rattle.grammar.specs.Answers.{Found}
+use Rattle.std.specs.Prelude.{Ok, Err}
+use Rattle.grammar.specs.declared.instruction.Fault.{Fault}
 use Rattle.grammar.specs.Answers.{numbers, Begins, instruction, cut, unknown}
 use Rattle.grammar.specs.Decoding.{decode_of}
 use Rattle.grammar.proofs.Answered.{found_cut, found_unknown, answers_decode}
@@ -43,9 +45,9 @@ module _ (fixed : Fixed) (m : Machine) (d : List ℕ) where
       at = m.eip - code_base
 
       by : (f : Found) → decode_of fixed.code at ≡ f → executed fixed f m d ≡ stop n a → Halts fixed.code m n a
-      by (Found.Instruction i) f e = let h = planned_stops _ _ m d e in late h.0 h.1
-      by Found.Cut f e = third (cc) (record { place = p; address = cc; prefix = found_cut fixed.code at f })
-      by Found.Unknown f e =
+      by (Ok i) f e = let h = planned_stops _ _ m d e in late h.0 h.1
+      by (Err Fault.Cut) f e = third (cc) (record { place = p; address = cc; prefix = found_cut fixed.code at f })
+      by (Err Fault.Unknown) f e =
           let h = found_unknown fixed.code at f in
           fourth (cc) (record { place = p; address = cc; begins_with_none = h.0; no_prefix = h.1 })
 

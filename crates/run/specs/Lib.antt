@@ -1,10 +1,9 @@
 -- The definitions of `run`. Assumes nothing.
 pub mod Steps
 pub mod Beside
-pub mod Fetching
 pub mod Runs
 pub mod Standing
 pub mod Pausing
 pub mod Repetitions
-pub mod Taking
 pub mod Sites
+pub mod Ends

@@ -4,7 +4,7 @@ use Rattle.machine.specs.declared.registers.Machine.{Machine}
 use Rattle.machine.specs.Registers.{register}
 use Rattle.grammar.specs.declared.rule.Repeat.{Repeat}
 use Rattle.grammar.specs.declared.instruction.Decoded.{Decoded}
-use Rattle.grammar.specs.declared.instruction.Found.{Found}
+use Rattle.std.specs.Prelude.{Ok}
 use Rattle.grammar.specs.Decoding.{decode_of}
 use Rattle.blockcheck.specs.Blocks.{code_base}
 use Rattle.sense.specs.declared.Strings.{Strings}
@@ -24,7 +24,7 @@ pub data After (fixed : Fixed) : ℕ → Machine → List ℕ → Machine → Li
 -- EIP is at MOVS, STOS or LODS under F3, in a machine of eight registers
 pub record Repeating (fixed : Fixed) (i : Decoded) (op : Strings) (m : Machine) : Type 0 where
   pub place : InCode fixed.code m
-  pub found : decode_of fixed.code (m.eip - code_base) ≡ Found.Instruction i
+  pub found : decode_of fixed.code (m.eip - code_base) ≡ Ok i
   pub operation : (plan_of m.eip i).operation ≡ Operation.Strings op
   pub plain : compares op ≡ false
   pub prefix : (plan_of m.eip i).repeat ≡ Repeat.F3

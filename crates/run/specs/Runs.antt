@@ -2,9 +2,11 @@
 use Rattle.std.specs.Prelude.{◌≡◌, not, ◌||◌, List, ℕ, zero, suc, length, if◌then◌else◌, nat_lt, ◌==◌}
 use Rattle.flags.specs.Word.{word_of, flags_of, passes}
 use Rattle.machine.specs.declared.registers.Machine.{Machine}
+use Rattle.effect.specs.Stops as Stops
+use Rattle.run.specs.declared.refusal.Refusal.{Refusal}
 use Rattle.run.specs.declared.End.{End}
 use Rattle.run.specs.declared.Lent.{Lent}
-use Rattle.run.specs.declared.Ran.{Ran}
+use Rattle.run.specs.declared.Ran as Code
 use Rattle.run.specs.Steps.{Fixed, Moved, next, stop, step_of}
 
 -- what a run of steps ends with
@@ -14,11 +16,6 @@ pub record Ended : Type 0 where
   pub steps : ℕ
   pub number : ℕ
   pub address : ℕ
-
--- r and the data after are what the steps end with
-pub record Ends (e : Ended) (r : End) (after : List ℕ) : Type 0 where
-  pub is : r ≡ record { machine = e.machine; steps = e.steps; number = e.number; address = e.address }
-  pub left : after ≡ e.area
 
 -- goes on with the next machine and data, or stops
 unfoldable pub on_moved : {A : Type 0} → Moved → (Machine → List ℕ → A) → (ℕ → ℕ → A) → A
@@ -51,14 +48,45 @@ opened l = record { regs = l.regs; xmm = l.xmm; eip = l.eip; flags = flags_of l.
 unfoldable pub closed : Machine → Lent
 closed m = record { regs = m.regs; xmm = m.xmm; eip = m.eip; word = word_of m.flags }
 
--- what a run hands back, and the data that it leaves
+-- what a run hands back: the machine, the steps done, and the number and the address that it ends with
+pub record Ran : Type 0 where
+  pub machine : Lent
+  pub steps : ℕ
+  pub number : ℕ
+  pub address : ℕ
+
+-- that, and the data that it leaves
 pub record HandedBack : Type 0 where
   pub ran : Ran
   pub area : List ℕ
 
+-- the number of a refusal
+unfoldable pub number_of : Refusal → ℕ
+number_of Refusal.Code = 10
+number_of Refusal.Data = 11
+number_of Refusal.Constants = 15
+number_of Refusal.Flags = 12
+number_of Refusal.Budget = 13
+
+-- the number of what ends a run: 0 of the budget
+unfoldable pub number_at : End → ℕ
+number_at End.Budget = 0
+number_at (End.Stop s) = Stops.number_of s
+number_at (End.Refused r) = number_of r
+
+-- the address that comes with it, where EIP is as given
+unfoldable pub address_at : End → ℕ → ℕ
+address_at End.Budget eip = eip
+address_at (End.Stop s) eip = Stops.address_of s eip
+address_at (End.Refused r) eip = 0
+
+-- what r hands back, with the number and the address of its end
+unfoldable pub told : Code.Ran → Ran
+told r = record { machine = r.machine; steps = r.steps; number = number_at r.end; address = address_at r.end r.machine.eip }
+
 -- r and the data after are what the run hands back
-pub record Runs (o : HandedBack) (r : Ran) (after : List ℕ) : Type 0 where
-  pub is : r ≡ o.ran
+pub record Runs (o : HandedBack) (r : Code.Ran) (after : List ℕ) : Type 0 where
+  pub is : told r ≡ o.ran
   pub left : after ≡ o.area
 
 -- steps were taken

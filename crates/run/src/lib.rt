@@ -1,21 +1,26 @@
-// A run of a block: refusals before any step, then steps until the budget is used up or one stops.
+//! A run of a block: refusals before any step, then steps until the budget is used up or one stops.
 #![tactic(auto)]
 
+mod refusal;
 mod site;
 pub mod step;
 
 ghost use Rattle.std.specs.Prelude.{◌≡◌};
-ghost use Rattle.effect.specs.Changes.{lent};
 ghost use Rattle.run.specs.Steps.{fixed_to};
-ghost use Rattle.run.specs.Runs.{Ends, Runs, run_from, refusal, opened, closed, run_of};
+ghost use Rattle.run.specs.Runs.{Runs, run_from, run_of, told, number_at, address_at};
+ghost use Rattle.run.specs.Ends.{ended};
 
-use crate::site::{is_for, site_at, stopping, take};
-use crate::step::Taken;
-use effect::outcome::make;
-use machine::registers::{Machine, bits_of, xmm_of};
+use crate::refusal::admit;
+use crate::step::kept_step;
+use effect::Stop;
+use flags::Word;
+use machine::memory::Memory;
+use machine::registers::Machine;
+pub use refusal::Refusal;
 use scalar::Xmm;
 
-// The machine as the caller lends it, and gets it back: with the flags word.
+/// The machine as the caller lends it, and gets it back: with the flags word.
+// Apart from `Machine`: a lent word may have bits that are no flags, for which a run is refused.
 #[derive(Clone, Copy)]
 pub struct Lent {
     pub regs: [u32; 8],
@@ -24,145 +29,145 @@ pub struct Lent {
     pub word: u32,
 }
 
-// What a run gives back.
+/// The machine that is lent, with its flags by the word.
+impl From<Lent> for Machine {
+    ghost use Rattle.std.specs.Prelude.{◌≡◌};
+    ghost use Rattle.run.specs.Runs.{opened};
+
+    ghost from_gives = { λ l m. m ≡ opened l };
+
+    #[tactic(auto, unfolding(crate::specs::Runs::opened))]
+    fn from(l: Lent) -> Machine {
+        let Lent {
+            regs,
+            xmm,
+            eip,
+            word,
+        } = l;
+        Machine {
+            regs,
+            xmm,
+            eip,
+            flags: Word::of_bits(word),
+        }
+    }
+}
+
+/// A machine as it is handed back: the word of its flags has no other bit.
+impl From<Machine> for Lent {
+    ghost use Rattle.std.specs.Prelude.{◌≡◌};
+    ghost use Rattle.run.specs.Runs.{closed};
+
+    ghost from_gives = { λ m l. l ≡ closed m };
+
+    #[tactic(auto, unfolding(crate::specs::Runs::closed))]
+    fn from(m: Machine) -> Lent {
+        let word = flags::pack(m.flags.unpack());
+        let Machine { regs, xmm, eip, .. } = m;
+        Lent {
+            regs,
+            xmm,
+            eip,
+            word,
+        }
+    }
+}
+
+/// What ends a run: its budget, a step that stops, or a refusal before any step.
+#[derive(Clone, Copy, Debug, PartialEq, Eq)]
+pub enum End {
+    Budget,
+    Stop(Stop),
+    Refused(Refusal),
+}
+
+impl End {
+    /// The document's number, 0 for the budget.
+    #[tactic(auto, unfolding(crate::specs::Runs::number_at))]
+    pub fn number(self) -> u32
+        ensures { result ≡ number_at self }
+    {
+        match self {
+            End::Budget => 0,
+            End::Stop(stop) => stop.number(),
+            End::Refused(refusal) => refusal.number(),
+        }
+    }
+
+    /// The address that comes with it, where EIP is as given.
+    #[tactic(auto, unfolding(crate::specs::Runs::address_at))]
+    pub fn address(self, eip: u32) -> u32
+        ensures { result ≡ address_at self eip }
+    {
+        match self {
+            End::Budget => eip,
+            End::Stop(stop) => stop.address(eip),
+            End::Refused(_) => 0,
+        }
+    }
+}
+
+/// What a run gives back: the machine, the steps done, and what ended it.
 #[derive(Clone, Copy)]
 pub struct Ran {
     pub machine: Lent,
     pub steps: u64,
-    pub number: u32,
-    pub address: u32,
+    pub end: End,
 }
 
-// What a run of steps ends with.
-#[derive(Clone, Copy)]
-struct End {
-    machine: Machine,
-    steps: u64,
-    number: u32,
-    address: u32,
+impl Ran {
+    /// The document's number of the end, 0 for the budget.
+    #[tactic(auto, unfolding(crate::specs::Runs::told))]
+    pub fn number(&self) -> u32
+        ensures { result ≡ (told self.now).number }
+    {
+        self.end.number()
+    }
+
+    /// The address that comes with it.
+    #[tactic(auto, unfolding(crate::specs::Runs::told))]
+    pub fn address(&self) -> u32
+        ensures { result ≡ (told self.now).address }
+    {
+        self.end.address(self.machine.eip)
+    }
 }
 
-// The number that a run is refused with, 0 if it is not.
-fn refusal(
-    code_length: usize,
-    area_length: usize,
-    constants_length: usize,
-    word: u32,
-    budget: u64,
-) -> u32
-    ensures { result ≡ refusal code_length area_length constants_length word budget }
+/// So many steps at the most, until one stops: how many were done, and what ended them.
+#[tactic(auto, using(crate::proofs::Going::goes, crate::proofs::Going::ends_stopped, crate::proofs::Going::ends_used), unfolding(crate::specs::Runs::number_at, crate::specs::Runs::address_at))]
+fn steps(code: &[u8], m: &mut Machine, memory: &mut Memory, budget: u64) -> (u64, End)
+    ensures ends { run_from (fixed_to code.now memory.old.constants.now) budget m.old memory.old.area.now 0 ≡ ended result.0 result.1 m.new memory.new.area.now }
+    ensures constants { memory.new.constants.now ≡ memory.old.constants.now }
+    ensures same_area { memory.new.area.ghost_name ≡ memory.old.area.ghost_name }
 {
-    if code_length == 0 {
-        return 10;
-    }
-    if 65_536 < code_length {
-        return 10;
-    }
-    if 65_536 < area_length {
-        return 11;
-    }
-    if 65_536 < constants_length {
-        return 15;
-    }
-    if flags::passes(word) {
-        if 1_000_000 < budget {
-            return 13;
+    // Fixed, since the emulator asks for no memory.
+    let mut kept = [None; 64];
+    for n in 0..budget {
+        if let Err(stop) = kept_step(code, &mut kept, m, memory) {
+            return (n, End::Stop(stop));
         }
-        return 0;
     }
-    12
+    (budget, End::Budget)
 }
 
-// The machine of registers, XMM registers by their bits, EIP and the flags word.
-fn machine_of(regs: [u32; 8], xmm: [u32; 8], eip: u32, word: u32) -> Machine
-    ensures { result ≡ lent regs xmm eip word }
-{
-    Machine {
-        regs,
-        xmm: xmm_of(xmm),
-        eip,
-        flags: flags::unpack(word),
-    }
-}
-
-// So many steps at the most, until one stops, on the lent registers, XMM registers and flags word. What a step takes from the code alone is kept by EIP modulo 64.
-fn steps(code: &[u8], constants: &[u8], l: Lent, area: &mut [u8], budget: u64) -> End
-    ensures { Ends (run_from (fixed_to code.now constants.now) budget (opened l) area.old 0) result area.new }
-{
-    let none = stopping(0, 0);
-    let mut kept = [none; 64];
-    let mut regs = l.regs;
-    let singles = l.xmm;
-    let mut xmm = bits_of(singles);
-    let mut eip = l.eip;
-    let mut word = l.word;
-    let mut n = 0;
-    while n < budget {
-        let slot = (eip % 64) as usize;
-        let known = kept[slot];
-        if !is_for(known, eip) {
-            kept[slot] = site_at(code, eip);
-        }
-        let here = kept[slot];
-        match take(here, &regs, &mut xmm, eip, word, constants, area) {
-            Taken::Goes(c) => {
-                make(&mut regs, c);
-                eip = c.next;
-                word = c.word;
-            }
-            Taken::Stops { number, address } => {
-                return End {
-                    machine: machine_of(regs, xmm, eip, word),
-                    steps: n,
-                    number,
-                    address,
-                };
-            }
-        }
-        n += 1;
-    }
-    End {
-        machine: machine_of(regs, xmm, eip, word),
-        steps: n,
-        number: 0,
-        address: eip,
-    }
-}
-
-// A machine as it is handed back.
-fn close(m: Machine) -> Lent
-    ensures { result ≡ closed m }
-{
-    let regs = m.regs;
-    let xmm = m.xmm;
-    let f = m.flags;
-    Lent {
-        regs,
-        xmm,
-        eip: m.eip,
-        word: flags::pack(f),
-    }
-}
-
-// A run of a block.
+/// A run of a block.
+#[tactic(auto, using(crate::proofs::Handing::hands_taken, crate::proofs::Handing::hands_refused), unfolding(crate::specs::Runs::taken, crate::specs::Runs::refused, crate::specs::Runs::told, crate::specs::Runs::number_at, crate::specs::Runs::address_at, crate::specs::Runs::closed))]
 pub fn run(l: Lent, code: &[u8], constants: &[u8], area: &mut [u8], budget: u64) -> Ran
     ensures { Runs (run_of (fixed_to code.now constants.now) l area.old budget) result area.new }
 {
-    let n = refusal(code.len(), area.len(), constants.len(), l.word, budget);
-    if n == 0 {
-        let e = steps(code, constants, l, area, budget);
-        let m = e.machine;
+    if let Err(refusal) = admit(code.len(), area.len(), constants.len(), l.word, budget) {
         return Ran {
-            machine: close(m),
-            steps: e.steps,
-            number: e.number,
-            address: e.address,
+            machine: l,
+            steps: 0,
+            end: End::Refused(refusal),
         };
     }
+    let mut m = Machine::from(l);
+    let mut memory = Memory { constants, area };
+    let (steps, end) = steps(code, &mut m, &mut memory, budget);
     Ran {
-        machine: l,
-        steps: 0,
-        number: n,
-        address: 0,
+        machine: Lent::from(m),
+        steps,
+        end,
     }
 }

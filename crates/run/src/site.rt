@@ -1,106 +1,58 @@
-// What a step at an EIP takes from the code alone, so that it can be kept from one step to the next.
-ghost use Rattle.std.specs.Prelude.{◌≡◌, ◌&&◌, ◌==◌};
-ghost use Rattle.machine.specs.Lending.{xmm_of};
-ghost use Rattle.effect.specs.Changes.{lent};
-ghost use Rattle.run.specs.Sites.{site_step, Stops, Tells};
-ghost use Rattle.run.specs.Taking.{Takes};
+//! What a step at an EIP takes from the code alone, so that it can be kept from one step to the next.
+ghost use Rattle.std.specs.Prelude.{◌≡◌};
+ghost use Rattle.run.specs.Sites.{site_of, Keeps};
 
-use crate::step::{Taken, follow, stops};
-use grammar::instruction::Found;
+use blockcheck::CODE;
+use effect::Stop;
+use grammar::instruction::Fault;
 use grammar::reader::read;
-use grammar::rule::Repeat;
-use plan::{Address, Operand, Plan};
-use sense::{Flagging, Operation};
-use width::Size;
+use plan::Plan;
 
-// What a step at an EIP comes from: the plan of the instruction there, or else the number that it stops with.
+/// A block that returns here has ended.
+const HOME: u32 = 0xFFFF_0000;
+
+/// The plan of the instruction at an EIP.
 #[derive(Clone, Copy)]
 pub struct Site {
-    pub planned: bool,
     pub eip: u32,
     pub plan: Plan,
-    pub number: u32,
 }
 
-// A plan that no step follows.
-fn no_plan() -> Plan {
-    Plan {
-        operation: Operation::Flagging(Flagging::Cmc),
-        size: Size::Byte,
-        destination: Operand::Number(0),
-        source: Operand::Number(0),
-        other: Operand::Number(0),
-        repeat: Repeat::Absent,
-        next: 0,
-        target: 0,
-        address: Address {
-            modrm: 0,
-            sib: 0,
-            displacement: 0,
-        },
-    }
-}
-
-// A site where a step stops with a number.
-pub fn stopping(eip: u32, number: u32) -> Site
-    ensures { Stops eip number result }
+/// What stands at an EIP: the tests for 1 to 4 in their order, and then the plan of the instruction.
+#[tactic(auto, unfolding(crate::specs::Sites::site_of, crate::specs::Sites::plan_in, crate::specs::Steps::home, crate::specs::Steps::inside, blockcheck::specs::Blocks::code_base))]
+pub fn site_at(code: &[u8], eip: u32) -> Result<Plan, Stop>
+    ensures { result ≡ site_of code.now eip }
 {
-    Site {
-        planned: false,
-        eip,
-        plan: no_plan(),
-        number,
+    if eip == HOME {
+        return Err(Stop::Home);
     }
-}
-
-// What stands at an EIP: the tests for 1 to 4 in their order, and then the plan of the instruction.
-pub fn site_at(code: &[u8], eip: u32) -> Site
-    ensures { Tells code.now eip result }
-{
-    if eip == 0xFFFF_0000 {
-        return stopping(eip, 1);
-    }
-    if eip < 0x0001_0000 {
-        return stopping(eip, 2);
-    }
-    let at = (eip - 0x0001_0000) as usize;
-    if code.len() <= at {
-        return stopping(eip, 2);
+    let at = eip.checked_sub(CODE).ok_or(Stop::OutsideCode)? as usize;
+    if at >= code.len() {
+        return Err(Stop::OutsideCode);
     }
     match read(code, at) {
-        Found::Instruction(d) => Site {
-            planned: true,
-            eip,
-            plan: plan::plan_of(eip, d),
-            number: 0,
-        },
-        Found::Cut => stopping(eip, 3),
-        Found::Unknown => stopping(eip, 4),
+        Ok(decoded) => Ok(plan::plan_of(eip, decoded)),
+        // Here alone, so by hand: `From` would be no shorter.
+        Err(Fault::Cut) => Err(Stop::Cut),
+        Err(Fault::Unknown) => Err(Stop::Unknown),
     }
 }
 
-// Whether a site has a plan, and is that of an EIP.
-pub fn is_for(s: Site, eip: u32) -> bool
-    ensures { result ≡ (s.planned && s.eip == eip) }
+/// The same, where plans are kept by EIP modulo 64.
+#[inline(always)]
+pub fn plan_at(code: &[u8], kept: &mut [Option<Site>; 64], eip: u32) -> Result<Plan, Stop>
+    requires { Keeps code.now kept.old }
+    ensures plan { result ≡ site_of code.now eip }
+    ensures kept { Keeps code.now kept.new }
 {
-    s.planned && s.eip == eip
-}
-
-// The step of a site.
-pub fn take(
-    s: Site,
-    regs: &[u32; 8],
-    xmm: &mut [u32; 8],
-    eip: u32,
-    word: u32,
-    constants: &[u8],
-    area: &mut [u8],
-) -> Taken
-    ensures { Takes (site_step constants.now s (lent regs.now xmm.old eip word) area.old) (lent regs.now xmm.old eip word) area.old result (xmm_of xmm.new) area.new }
-{
-    if s.planned {
-        let p = s.plan;
-        return follow(p, regs, xmm, eip, word, constants, area);
+    // The plan by value: handed by reference, with the step written out twice, each step takes a quarter longer.
+    let slot = (eip % 64) as usize;
+    if let Some(site) = &kept[slot] {
+        if site.eip == eip {
+            return Ok(site.plan);
+        }
     }
-    stops(s.number, eip)
+    let plan = site_at(code, eip)?;
+    kept[slot] = Some(Site { eip, plan });
+    Ok(plan)
 }

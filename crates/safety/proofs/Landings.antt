@@ -17,8 +17,9 @@ use Rattle.machine.specs.Registers.{with_xmm}
 use Rattle.grammar.specs.Decoding.{decode_of}
 use Rattle.grammar.specs.Relative.{relative_of}
 use Rattle.grammar.specs.declared.instruction.Decoded.{Decoded}
-use Rattle.grammar.specs.declared.instruction.Found.{Found}
-use Rattle.grammar.specs.declared.relative.Relative.{Relative}
+use Rattle.std.specs.Prelude.{Ok}
+use Rattle.grammar.specs.Relative.{Relative}
+use Rattle.std.specs.Prelude.{None, Some}
 use Rattle.grammar.proofs.Answered.{found_standing, found_inside}
 use Rattle.blockcheck.specs.Blocks.{code_base, target_of}
 use Rattle.blockcheck.specs.Starts.{Start, Acceptable}
@@ -60,7 +61,7 @@ end_outside code =
     )
 
 module _ {code : List ℕ} (ok : Acceptable code) (m : Machine) {i : ℕ} (start : Start code i) (at : m.eip ≡ code_base + i)
-    (x : Decoded) (found : decode_of code i ≡ Found.Instruction x) where
+    (x : Decoded) (found : decode_of code i ≡ Ok x) where
   -- the next instruction's address does not wrap
   next_address : next_of m.eip x ≡ code_base + (i + x.length)
   unfolding next_of code_base
@@ -78,8 +79,8 @@ module _ {code : List ℕ} (ok : Acceptable code) (m : Machine) {i : ℕ} (start
   -- so is where the displacement leads
   target_landed : (by : Relative) → relative_of x ≡ by → Landed code (leads by (next_of m.eip x))
   unfolding leads target_of
-  target_landed Relative.Absent e = next_landed
-  target_landed (Relative.By y) e =
+  target_landed None e = next_landed
+  target_landed (Some y) e =
       let (s, lands, address) = displacement_lands start x found ok y e in
       at_start lands (rw (next_address, wraps) (ap (λ (n : ℕ). n % 2 ^ 32) (omega arith) ∙ address))
 

@@ -49,8 +49,8 @@ refusal_readable : (fixed : Fixed) (d : List ℕ) (word budget : ℕ) → Readab
 unfolding refusal
 refusal_readable fixed d word budget =
     let by_budget = chosen Readable (ltb 1_000_000 budget) (late 13 (omega arith)) (early 0 (omega arith)) in
-    let by_word = chosen Readable (not (passes word)) (late 12 (omega arith)) by_budget in
-    let by_constants = chosen Readable (ltb 65_536 (length fixed.constants)) (late 15 (omega arith)) by_word in
+    let by_word_lem = chosen Readable (not (passes word)) (late 12 (omega arith)) by_budget in
+    let by_constants = chosen Readable (ltb 65_536 (length fixed.constants)) (late 15 (omega arith)) by_word_lem in
     let by_data = chosen Readable (ltb 65_536 (length d)) (late 11 (omega arith)) by_constants in
     chosen Readable (eqb (length fixed.code) 0 || ltb 65_536 (length fixed.code)) (late 10 (omega arith)) by_data
 

@@ -2,7 +2,9 @@
 use Rattle.std.specs.Prelude.{◌≡◌, Bool, true, false, List, ℕ, zero, suc, ◌+◌, ◌-◌}
 use Rattle.machine.specs.declared.registers.Machine.{Machine}
 use Rattle.grammar.specs.Decoding.{decode_of}
-use Rattle.grammar.specs.declared.instruction.Found.{Found}
+use Rattle.grammar.specs.Answers.{Found}
+use Rattle.std.specs.Prelude.{Ok, Err}
+use Rattle.grammar.specs.declared.instruction.Fault.{Fault}
 use Rattle.blockcheck.specs.Blocks.{code_base}
 use Rattle.blockcheck.specs.Starts.{Start}
 use Rattle.plan.specs.Plans.{plan_of}
@@ -17,9 +19,9 @@ pub data Landed (code : List ℕ) (a : ℕ) : Type 0 where
 
 -- what is found is a return, or a jump or call through a register or memory
 unfoldable pub indirect_found : Found → Machine → Bool
-indirect_found (Found.Instruction d) m = indirect (plan_of m.eip d).operation
-indirect_found Found.Cut m = false
-indirect_found Found.Unknown m = false
+indirect_found (Ok d) m = indirect (plan_of m.eip d).operation
+indirect_found (Err Fault.Cut) m = false
+indirect_found (Err Fault.Unknown) m = false
 
 -- the instruction at EIP is one of these
 unfoldable pub indirect_at : List ℕ → Machine → Bool

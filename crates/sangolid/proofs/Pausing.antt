@@ -8,9 +8,8 @@ use Rattle.scalar.specs.declared.Xmm.{Xmm}
 use Rattle.machine.specs.Registers.{xmm, bits_in}
 use Rattle.machine.proofs.Lists.{listed, eight_listed}
 use Rattle.run.specs.declared.Lent.{Lent}
-use Rattle.run.specs.declared.Ran.{Ran}
 use Rattle.run.specs.Steps.{Fixed}
-use Rattle.run.specs.Runs.{HandedBack, run_of}
+use Rattle.run.specs.Runs.{Ran, HandedBack, run_of}
 use Rattle.run.proofs.Kept.{as_lent}
 use Rattle.run.specs.Pausing.{Joined}
 use Rattle.run.proofs.Law.{law}

@@ -1,19 +1,18 @@
 -- States and answers written whole, and what a call comes to. Assumes nothing.
 use mathlib.Core.Path.{◌≡◌, refl, ap, ◌∙◌}
 use mathlib.Core.List.{List, [], ◌∷◌, ◌++◌, append-nil}
-use Prim.Native.Nat.{ℕ, suc, ◌+◌, ◌^◌, ◌<◌}
+use Prim.Native.Nat.{ℕ, ◌+◌, ◌^◌, ◌<◌}
 use native.Mathlib.Omega.{arith}
-use lib.ListN.{length, drop, get_or, set}
+use lib.ListN.{length, drop, set}
 use lib.Seq.{sets, sets-eq, drop-length}
 use borrow.Author.Tests.{eq-eqb, ne_eqb}
 use Rattle.blockcheck.specs.Blocks.{Judged}
 use Rattle.intel_hex.specs.Files.{Outcome}
 use Rattle.run.specs.declared.Lent.{Lent}
-use Rattle.run.specs.declared.Ran.{Ran}
+use Rattle.run.specs.declared.Ran as Code
 use Rattle.run.specs.Steps.{Fixed}
-use Rattle.run.specs.Runs.{Runs, run_of}
-use Rattle.machine.specs.Registers.{bits_in}
-use Rattle.sangolid.specs.Interface.{rest_of, misfit, lent_of, state_of, called, call_of, Calls, Checks, judged, word_of, Unhexes, unhexed}
+use Rattle.run.specs.Runs.{Ran, told, Runs, run_of}
+use Rattle.sangolid.specs.Interface.{misfit, lent_of, state_of, called, call_of, Calls, Checks, judged, word_of, Unhexes, unhexed}
 use Rattle.sangolid.proofs.Bounds.{steps_fit}
 
 -- an area as long as what is written over it holds nothing else
@@ -21,31 +20,6 @@ sets_whole : (vs l : List ℕ) → length l ≡ length vs → sets l 0 vs ≡ vs
 sets_whole vs l e =
     let long : 0 + length vs ≡ length l = omega arith in
     sets-eq vs l 0 (omega arith) ∙ ap (λ (k : ℕ). vs ++ drop k l) long ∙ ap (λ (r : List ℕ). vs ++ r) (drop-length l) ∙ append-nil vs
-
--- four words, one after the other
-pub four_sets : (l : List ℕ) (i a b c d : ℕ) → set (set (set (set l i a) (i + 1) b) (i + 2) c) (i + 3) d ≡ sets l i (a ∷ b ∷ c ∷ d ∷ [])
-four_sets l i a b c d =
-    let one : i + 1 ≡ suc i = omega arith in
-    let two : i + 2 ≡ suc (suc i) = omega arith in
-    let three : i + 3 ≡ suc (suc (suc i)) = omega arith in
-    rw (one, two, three) refl
-
--- twelve words, four at a time, are the rest of a state
-pub rest_put : (state : List ℕ) {one two three : List ℕ} (m : Lent) (steps address : ℕ)
-    → one ≡ sets state 8 (m.eip ∷ m.word ∷ bits_in m.xmm 0 ∷ bits_in m.xmm 1 ∷ [])
-    → two ≡ sets one 12 (bits_in m.xmm 2 ∷ bits_in m.xmm 3 ∷ bits_in m.xmm 4 ∷ bits_in m.xmm 5 ∷ [])
-    → three ≡ sets two 16 (bits_in m.xmm 6 ∷ bits_in m.xmm 7 ∷ steps ∷ address ∷ [])
-    → three ≡ sets state 8 (rest_of m steps address)
-rest_put state m steps address first second third = rw (third, second, first) refl
-
--- eight words, four at a time, and the rest are a whole state
-pub handed : (state : List ℕ) {one two three : List ℕ} (r : Ran) → length state ≡ 20
-    → one ≡ sets state 0 (get_or r.machine.regs 0 0 ∷ get_or r.machine.regs 1 0 ∷ get_or r.machine.regs 2 0 ∷ get_or r.machine.regs 3 0 ∷ [])
-    → two ≡ sets one 4 (get_or r.machine.regs 4 0 ∷ get_or r.machine.regs 5 0 ∷ get_or r.machine.regs 6 0 ∷ get_or r.machine.regs 7 0 ∷ [])
-    → three ≡ sets two 8 (rest_of r.machine r.steps r.address)
-    → three ≡ state_of r
-unfolding state_of
-handed state r long first second third = rw (third, second, first) (sets_whole (state_of r) state long)
 
 module _ (state : List ℕ) (fixed : Fixed) (d : List ℕ) (budget : ℕ) where
   -- a state of another length: 90, and nothing is changed
@@ -59,17 +33,18 @@ module _ (state : List ℕ) (fixed : Fixed) (d : List ℕ) (budget : ℕ) where
   calls_misfit wrong = rw (misfit_changes_nothing wrong) (record { is = refl; state_left = refl; area_left = refl })
 
   -- the run's number, with the state written whole
-  pub calls_run : length state ≡ 20 → {l : Lent} {r : Ran} {later after : List ℕ} → l ≡ lent_of state → Runs (run_of fixed l d budget) r after
-      → later ≡ state_of r
-      → Calls (call_of state fixed d budget) r.number later after
+  pub calls_run : length state ≡ 20 → {l : Lent} {r : Code.Ran} {later after : List ℕ} → l ≡ lent_of state → Runs (run_of fixed l d budget) r after
+      → later ≡ state_of (told r)
+      → Calls (call_of state fixed d budget) (told r).number later after
   unfolding call_of called
   calls_run long lending runs writing =
       rw (eq-eqb _ _ long, ← lending) (record { is = ap (λ (r : Ran). r.number) runs.is; state_left = writing ∙ ap state_of runs.is; area_left = runs.left })
 
 -- the steps that a run hands back fit a word
-pub ran_fits : (fixed : Fixed) (l : Lent) (d : List ℕ) (budget : ℕ) {r : Ran} {after : List ℕ} → Runs (run_of fixed l d budget) r after
+pub ran_fits : (fixed : Fixed) (l : Lent) (d : List ℕ) (budget : ℕ) {r : Code.Ran} {after : List ℕ} → Runs (run_of fixed l d budget) r after
     → r.steps < 2 ^ 32
-ran_fits fixed l d budget runs = rw runs.is (steps_fit fixed l d budget)
+unfolding told
+ran_fits fixed l d budget runs = let same = ap (λ (r : Ran). r.steps) runs.is in rw same (steps_fit fixed l d budget)
 
 -- a check's answer is written whole
 pub checks_judged : {code marks answer after : List ℕ} {n number v value : ℕ} → length answer ≡ 1 → Judged code marks number value after

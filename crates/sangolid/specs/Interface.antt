@@ -2,9 +2,8 @@
 use Rattle.std.specs.Prelude.{◌≡◌, List, [], ◌∷◌, ℕ, min, length, if◌then◌else◌, slice_index, ◌==◌}
 use Rattle.machine.specs.Registers.{xmm, bits_in}
 use Rattle.run.specs.declared.Lent.{Lent}
-use Rattle.run.specs.declared.Ran.{Ran}
 use Rattle.run.specs.Steps.{Fixed}
-use Rattle.run.specs.Runs.{HandedBack, run_of}
+use Rattle.run.specs.Runs.{Ran, HandedBack, run_of}
 use Rattle.blockcheck.specs.Blocks.{Judged}
 use Rattle.intel_hex.specs.Files.{Outcome}
 

@@ -1,13 +1,12 @@
--- Which bits are a NaN's, what differs from itself, and singles of which neither is a NaN. Assumes nothing.
-use mathlib.Core.Path.{◌≡◌, refl, sym, ◌∙◌}
+-- Which bits are a NaN's, and singles of which neither is a NaN. Assumes nothing.
+use mathlib.Core.Path.{◌≡◌, refl, sym}
 use mathlib.Core.Bool.{Bool, true, false, cond, not, ◌&&◌, ◌||◌, true≢false}
 use mathlib.Core.Logic.{◌⊎◌, inl, inr}
 use Prim.Native.Nat.{ℕ, ◌%◌, ◌^◌, ◌<◌}
 use native.Mathlib.Omega.{arith}
 use lib.Dec.{T, ltb, eqb}
-use lib.Ieee.{Float, nan, inf, fin, binary32, lt, ne, is_nan, nan_bits, of_bits, to_bits, of_fields, odd}
+use lib.Ieee.{Float, binary32, lt, is_nan, nan_bits, of_bits, to_bits, of_fields, odd}
 use lib.Ieee.Bits.{nan_bits_above}
-use lib.Ieee.Compare.{differs_from_itself, nan_differs}
 use borrow.Author.Tests.{eqb-true, eqb-false}
 use Rattle.flags.specs.declared.Flags.{Flags}
 use Rattle.scalar.specs.Singles.{is_single_nan, is_zero, number, result_of, first_nan, rounded, chosen, answer, compared}
@@ -16,18 +15,6 @@ use Rattle.scalar.specs.Singles.{is_single_nan, is_zero, number, result_of, firs
 pub nan_above : (b : ℕ) → ltb 0x7F80_0000 (b % 0x8000_0000) ≡ is_single_nan b
 unfolding is_single_nan
 nan_above b = sym (nan_bits_above binary32 b)
-
--- what differs from itself is no number
-pub differs : (x : Float) → ne x x ≡ true → is_nan x ≡ true
-unfolding is_nan
-differs x e = rw (differs_from_itself x (rw e tt)) refl
-
--- what does not is one
-pub same : (x : Float) → ne x x ≡ false → is_nan x ≡ false
-unfolding is_nan
-same nan e = absurd (true≢false (sym nan_differs ∙ e))
-same (inf s) e = refl
-same (fin s m d) e = refl
 
 -- of a number the result's bits are its own
 pub numbered : (x : Float) → is_nan x ≡ false → to_bits binary32 x ≡ result_of x

@@ -1,4 +1,3 @@
 -- The definitions of `sense`. Assumes nothing.
 pub mod Senses
 pub mod Operations
-pub mod Table

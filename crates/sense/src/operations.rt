@@ -1,5 +1,5 @@
-// Which operation an opcode names: by the reg field in a group, by the opcode's own bits elsewhere.
-ghost use Rattle.std.specs.Prelude.{◌≡◌};
+//! Which operation an opcode names: by the reg field in a group, by the opcode's own bits elsewhere.
+ghost use Rattle.std.specs.Prelude.{◌≡◌, slice_index_or};
 ghost use Rattle.sense.specs.Operations.{binary_at, shift_at, product_at, inc_dec_at, last_at, bit_test_at, compute_at, operation_of};
 
 use crate::{Arithmetic, Bits, Branch, Flagging, Kind, Move, Operation, Stack, Strings};
@@ -9,107 +9,131 @@ use scalar::Compute;
 use shift::Shift;
 use width::Size;
 
-// By three bits of the opcode, or the reg field.
+/// The entry of a table at a number; past the table's end, the last operation, which the table leaves out.
+fn at_or<T: Copy>(table: &[T], number: u32, last: T) -> T
+    ensures { result ≡ slice_index_or table.now number last }
+{
+    table.get(number as usize).copied().unwrap_or(last)
+}
+
+/// The operations of 00 to 3F, 80, 81 and 83 but the last.
+static BINARY: [Binary; 7] = [
+    Binary::Add,
+    Binary::Or,
+    Binary::Adc,
+    Binary::Sbb,
+    Binary::And,
+    Binary::Sub,
+    Binary::Xor,
+];
+
+/// By three bits of the opcode, or the reg field.
+#[tactic(auto, unfolding(crate::specs::Operations::binary_at))]
 fn binary_at(number: u32) -> Binary
     ensures { result ≡ binary_at number }
 {
-    match number {
-        0 => Binary::Add,
-        1 => Binary::Or,
-        2 => Binary::Adc,
-        3 => Binary::Sbb,
-        4 => Binary::And,
-        5 => Binary::Sub,
-        6 => Binary::Xor,
-        _ => Binary::Cmp,
-    }
+    at_or(&BINARY, number, Binary::Cmp)
 }
 
-// By the reg field.
+/// The operations of C0, C1 and D0 to D3 but the last; no instruction has 6.
+static SHIFTS: [Shift; 6] = [
+    Shift::Rol,
+    Shift::Ror,
+    Shift::Rcl,
+    Shift::Rcr,
+    Shift::Shl,
+    Shift::Shr,
+];
+
+/// By the reg field.
+#[tactic(auto, unfolding(crate::specs::Operations::shift_at))]
 fn shift_at(number: u32) -> Shift
     ensures { result ≡ shift_at number }
 {
-    match number {
-        0 => Shift::Rol,
-        1 => Shift::Ror,
-        2 => Shift::Rcl,
-        3 => Shift::Rcr,
-        4 => Shift::Shl,
-        5 => Shift::Shr,
-        _ => Shift::Sar,
-    }
+    at_or(&SHIFTS, number, Shift::Sar)
 }
 
-// F6 and F7, by the reg field.
+/// The operations of F6 and F7 but the last; no instruction has 1.
+static PRODUCTS: [Arithmetic; 7] = [
+    Arithmetic::Test,
+    Arithmetic::Test,
+    Arithmetic::Single(Single::Not),
+    Arithmetic::Single(Single::Neg),
+    Arithmetic::Mul,
+    Arithmetic::Imul,
+    Arithmetic::Div,
+];
+
+/// F6 and F7, by the reg field.
+#[tactic(auto, unfolding(crate::specs::Operations::product_at))]
 fn product_at(number: u32) -> Arithmetic
     ensures { result ≡ product_at number }
 {
-    match number {
-        0 => Arithmetic::Test,
-        1 => Arithmetic::Test,
-        2 => Arithmetic::Single(Single::Not),
-        3 => Arithmetic::Single(Single::Neg),
-        4 => Arithmetic::Mul,
-        5 => Arithmetic::Imul,
-        6 => Arithmetic::Div,
-        _ => Arithmetic::Idiv,
-    }
+    at_or(&PRODUCTS, number, Arithmetic::Idiv)
 }
 
-// FE, by the reg field.
+/// FE, by the reg field.
+#[tactic(auto, unfolding(crate::specs::Operations::inc_dec_at))]
 fn inc_dec_at(number: u32) -> Arithmetic
     ensures { result ≡ inc_dec_at number }
 {
+    // A table of one entry would be no plainer.
     match number {
         0 => Arithmetic::Single(Single::Inc),
         _ => Arithmetic::Single(Single::Dec),
     }
 }
 
-// FF, by the reg field.
+/// The operations of FF but the last; no instruction has 3, 5 or 7.
+static LAST: [Operation; 6] = [
+    Operation::Arithmetic(Arithmetic::Single(Single::Inc)),
+    Operation::Arithmetic(Arithmetic::Single(Single::Dec)),
+    Operation::Stack(Stack::CallTo),
+    Operation::Stack(Stack::CallTo),
+    Operation::Branch(Branch::JumpTo),
+    Operation::Branch(Branch::JumpTo),
+];
+
+/// FF, by the reg field.
+#[tactic(auto, unfolding(crate::specs::Operations::last_at))]
 fn last_at(number: u32) -> Operation
     ensures { result ≡ last_at number }
 {
-    match number {
-        0 => Operation::Arithmetic(Arithmetic::Single(Single::Inc)),
-        1 => Operation::Arithmetic(Arithmetic::Single(Single::Dec)),
-        2 => Operation::Stack(Stack::CallTo),
-        3 => Operation::Stack(Stack::CallTo),
-        4 => Operation::Branch(Branch::JumpTo),
-        5 => Operation::Branch(Branch::JumpTo),
-        _ => Operation::Stack(Stack::Push),
-    }
+    at_or(&LAST, number, Operation::Stack(Stack::Push))
 }
 
-// By two bits of the opcode, or of the reg field.
+/// The bit tests but the last.
+static BIT_TESTS: [BitTest; 3] = [BitTest::Bt, BitTest::Bts, BitTest::Btr];
+
+/// By two bits of the opcode, or of the reg field.
+#[tactic(auto, unfolding(crate::specs::Operations::bit_test_at))]
 fn bit_test_at(number: u32) -> BitTest
     ensures { result ≡ bit_test_at number }
 {
-    match number {
-        0 => BitTest::Bt,
-        1 => BitTest::Bts,
-        2 => BitTest::Btr,
-        _ => BitTest::Btc,
-    }
+    at_or(&BIT_TESTS, number, BitTest::Btc)
 }
 
-// By the opcode's last three bits.
+/// The operations of F3 0F 58 to F3 0F 5F but the last; no instruction has 2 or 3.
+static COMPUTES: [Compute; 7] = [
+    Compute::Add,
+    Compute::Mul,
+    Compute::Mul,
+    Compute::Mul,
+    Compute::Sub,
+    Compute::Min,
+    Compute::Div,
+];
+
+/// By the opcode's last three bits.
+#[tactic(auto, unfolding(crate::specs::Operations::compute_at))]
 fn compute_at(number: u32) -> Compute
     ensures { result ≡ compute_at number }
 {
-    match number {
-        0 => Compute::Add,
-        1 => Compute::Mul,
-        2 => Compute::Mul,
-        3 => Compute::Mul,
-        4 => Compute::Sub,
-        5 => Compute::Min,
-        6 => Compute::Div,
-        _ => Compute::Max,
-    }
+    at_or(&COMPUTES, number, Compute::Max)
 }
 
-// The operation of a kind, with the opcode and the ModR/M byte's reg field.
+/// The operation of a kind, with the opcode and the ModR/M byte's reg field.
+#[tactic(auto, unfolding(crate::specs::Operations::operation_of))]
 pub fn operation(kind: Kind, opcode: usize, field: u32) -> Operation
     ensures { result ≡ operation_of kind opcode field }
 {

@@ -1,4 +1,4 @@
-// Filling a lent buffer from what reads.
+//! Filling a lent buffer from what reads.
 #![tactic(auto)]
 
 ghost use Rattle.std.specs.Prelude.{◌≤◌, length, take};
@@ -6,7 +6,8 @@ ghost use Rattle.std.specs.Io.KnownBytes.{Consumes};
 
 use std::io::Read;
 
-// Reads until the buffer is full, the input ends or a read fails, and gives how many bytes it put at the buffer's start: the next ones of the input.
+/// Reads until the buffer is full, the input ends or a read fails, and gives how many bytes it put at the buffer's start: the next ones of the input.
+// By hand, since `read_to_end` asks for memory, and reads on after an interrupted read.
 pub fn read_full<R: Read>(from: &mut R, buffer: &mut [u8]) -> usize
     ensures inside { result ≤ length buffer.new }
     ensures taken { Consumes (R.remaining from.old) (R.remaining from.new) (take result buffer.new) }
@@ -28,7 +29,7 @@ mod tests {
     use std::io;
     use std::io::ErrorKind;
 
-    // Its reads fail.
+    /// Its reads fail.
     #[derive(Drop)]
     struct Failing;
 

@@ -24,26 +24,28 @@ by_enough (suc k) zero n h g = by_one (suc k) n (omega arith) ∙ sym (by_one ze
 by_enough (suc k) (suc m) n h g = rw (by_enough k m (n / 10) (omega arith) (omega arith))
 
 -- a number below 10 is its digit
-pub decimal_one : (n : ℕ) → n < 10 → decimal n ≡ (48 + n % 10) ∷ []
-unfolding decimal
-decimal_one n h = by_one n n h ∙ ap (λ (d : ℕ). (48 + d) ∷ []) (omega arith)
+pub decimal_one : (n : ℕ) → n < 10 → decimal n ≡ hex_digit n ∷ []
+unfolding decimal hex_digit
+decimal_one n h = rw (lt-ltb n 10 h) (by_one n n h)
 
 -- any other has the digits of its tenth, and its last
-pub decimal_more : (n : ℕ) → 10 ≤ n → decimal n ≡ decimal (n / 10) ++ (48 + n % 10) ∷ []
-unfolding decimal
+pub decimal_more : (n : ℕ) → 10 ≤ n → decimal n ≡ decimal (n / 10) ++ hex_digit (n % 10) ∷ []
+unfolding decimal hex_digit
 decimal_more zero h = absurd (omega arith)
 decimal_more (suc k) h =
-    unfold decimal_by in rw (le-ltb (suc k) 10 h) (ap (λ (l : List ℕ). l ++ (48 + suc k % 10) ∷ []) (by_enough k (suc k / 10) (suc k / 10) (omega arith) (omega arith)))
+    unfold decimal_by in
+    rw (le-ltb (suc k) 10 h, lt-ltb (suc k % 10) 10 (omega arith)) (ap (λ (l : List ℕ). l ++ (48 + suc k % 10) ∷ []) (by_enough k (suc k / 10) (suc k / 10) (omega arith) (omega arith)))
 
 -- no digit in base 16
-pub hexadecimal_none : (k n : ℕ) → k ≡ 0 → hexadecimal k n ≡ []
+pub hexadecimal_none : (k n : ℕ) → k ≤ 0 → hexadecimal k n ≡ []
 unfolding hexadecimal
-hexadecimal_none k n e = rw e
+hexadecimal_none zero n none = refl
+hexadecimal_none (suc k) n none = absurd (omega arith)
 
 -- some digits in base 16 are one less of its sixteenth, and its last
-pub hexadecimal_more : (k n : ℕ) → (k ≡ 0 → ⊥) → hexadecimal k n ≡ hexadecimal (k - 1) (n / 16) ++ hex_digit (n % 16) ∷ []
+pub hexadecimal_more : (k n : ℕ) → 0 < k → hexadecimal k n ≡ hexadecimal (k - 1) (n / 16) ++ hex_digit (n % 16) ∷ []
 unfolding hexadecimal
-hexadecimal_more zero n h = absurd (h refl)
+hexadecimal_more zero n h = absurd (omega arith)
 hexadecimal_more (suc k) n h =
     let same : k ≡ suc k - 1 = omega arith in
     ap (λ (j : ℕ). hexadecimal j (n / 16) ++ hex_digit (n % 16) ∷ []) same

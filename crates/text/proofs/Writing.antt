@@ -11,7 +11,8 @@ use lib.Dec.{leb}
 use lib.ListN.{length, set, take, get_or, length-append}
 use lib.Seq.{sets, length-sets, set_out, sets-eq, take_at, take-suc}
 use borrow.Author.Tests.{leb-true, leb-false}
-use Rattle.text.specs.Written.{written, place_after, Wrote}
+use Rattle.text.specs.Written.{written, place_after, Wrote, Adds}
+use Rattle.text.specs.declared.Buffer.{Buffer}
 
 -- stores past the end leave all as it is
 sets_out : (l : List ℕ) (i : ℕ) (vs : List ℕ) → length l ≤ i → sets l i vs ≡ l
@@ -92,11 +93,6 @@ pub wrote_length : {out bytes after : List ℕ} {at next : ℕ} → Wrote out at
 unfolding written
 wrote_length {out} {bytes} {after} {at} w = ap length w.holds ∙ length-sets out at bytes
 
--- so many bytes of a text, and then the next of them: one more
-pub wrote_next : {out mid after : List ℕ} (bytes : List ℕ) {at i j : ℕ} (n : ℕ) → n < length bytes → Wrote out at (take n bytes) i mid
-    → Wrote mid i (get_or bytes n 0 ∷ []) j after → Wrote out at (take (n + 1) bytes) j after
-wrote_next bytes n h first second = rw (add-one, take-suc bytes n 0) (wrote_both first second)
-
 -- the place after a text is inside the buffer, or at its end, where it began so
 pub wrote_end : {out bytes after : List ℕ} {at next : ℕ} → Wrote out at bytes next after → at ≤ length out → next ≤ length after
 unfolding place_after
@@ -109,3 +105,16 @@ wrote_whole {out} {bytes} w fits =
     let end = w.place ∙ place_fits (length out) 0 (length bytes) (omega arith) in
     let inside : 0 + length bytes ≤ length out = omega arith in
     rw (w.holds, end, sets-eq bytes out 0 inside) (take_at bytes _ (0 + length bytes) (omega arith))
+
+-- a buffer as it was, with nothing written
+pub adds_none : (b : Buffer) → Adds b [] b
+adds_none b = record { wrote = wrote_none _ _; same_area = refl }
+
+-- one text and then another: both
+pub adds_both : {a b c : Buffer} {xs ys : List ℕ} → Adds a xs b → Adds b ys c → Adds a (xs ++ ys) c
+adds_both first second = record { wrote = wrote_both first.wrote second.wrote; same_area = second.same_area ∙ first.same_area }
+
+-- so many bytes of a text, and then the next of them: one more
+pub adds_next : {a b c : Buffer} (bytes : List ℕ) (n : ℕ) → n < length bytes → Adds a (take n bytes) b → Adds b (get_or bytes n 0 ∷ []) c
+    → Adds a (take (n + 1) bytes) c
+adds_next bytes n h first second = rw (add-one, take-suc bytes n 0) (adds_both first second)

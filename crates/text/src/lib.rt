@@ -1,85 +1,98 @@
-// Writing text into a lent buffer: bytes, and numbers in decimal and in hexadecimal. What does not fit is left out.
+//! Text in a lent area: bytes, and numbers in decimal and in hexadecimal. What does not fit is left out.
 #![tactic(auto)]
 
-ghost use Rattle.std.specs.Prelude.{◌≡◌, [], ◌∷◌, ◌+◌, ◌%◌};
-ghost use Rattle.text.specs.Written.{Wrote};
+ghost use Rattle.std.specs.Prelude.{◌≡◌, [], ◌∷◌, ◌+◌, ◌<◌};
+ghost use Rattle.text.specs.Written.{Adds};
 ghost use Rattle.text.specs.Digits.{decimal, hex_digit, hexadecimal};
 ghost use Rattle.text.specs.Fields.{field, refusal};
 
-// Writes a byte at a place, and gives the next place.
-pub fn put_byte(out: &mut [u8], at: usize, byte: u8) -> usize
-    ensures { Wrote out.old at (byte ∷ []) result out.new }
+/// A digit below 16: a figure, or a capital letter.
+#[tactic(auto, unfolding(crate::specs::Digits::hex_digit))]
+fn digit(d: u64) -> u8
+    requires { d < 16 }
+    ensures { result ≡ hex_digit d }
 {
-    if at < out.len() {
-        out[at] = byte;
-        return at + 1;
+    if d < 10 {
+        b'0' + d as u8
+    } else {
+        b'A' + (d - 10) as u8
     }
-    at
 }
 
-// Writes bytes from a place on, and gives the next place.
-pub fn put_bytes(out: &mut [u8], at: usize, bytes: &[u8]) -> usize
-    ensures { Wrote out.old at bytes.now result out.new }
-{
-    let mut next = at;
-    let mut i = 0;
-    while i < bytes.len() {
-        next = put_byte(out, next, bytes[i]);
-        i += 1;
+/// A lent area, and the place in it for the next byte. What does not fit is left out, so nothing here can fail.
+#[derive(Debug, Drop)]
+pub struct Buffer<'a> {
+    pub area: &'a mut [u8],
+    pub at: usize,
+}
+
+impl<'a> Buffer<'a> {
+    /// A buffer over an area, from its start on.
+    pub fn new(area: &'a mut [u8]) -> Self
+        ensures same_area { result.area.ghost_name ≡ area.entry.ghost_name }
+        ensures area { result.area.now ≡ area.old }
+        ensures at { result.at ≡ 0 }
+    {
+        Buffer { area, at: 0 }
     }
-    next
-}
 
-// The last decimal digit.
-fn decimal_digit(n: u64) -> u8
-    ensures { result ≡ 48 + n % 10 }
-{
-    48 + (n % 10) as u8
-}
-
-// Writes a number in decimal, and gives the next place.
-pub fn put_decimal(out: &mut [u8], at: usize, n: u64) -> usize
-    ensures { Wrote out.old at (decimal n) result out.new }
-{
-    if n < 10 {
-        return put_byte(out, at, decimal_digit(n));
+    /// Writes a byte.
+    pub fn byte(&mut self, byte: u8)
+        ensures { Adds self.old (byte ∷ []) self.new }
+    {
+        if self.at < self.area.len() {
+            self.area[self.at] = byte;
+            self.at += 1;
+        }
     }
-    let next = put_decimal(out, at, n / 10);
-    put_byte(out, next, decimal_digit(n))
-}
 
-// The last digit in base 16.
-fn hex_digit(n: u64) -> u8
-    ensures { result ≡ hex_digit (n % 16) }
-{
-    let d = (n % 16) as u8;
-    if d < 10 { 48 + d } else { 55 + d }
-}
-
-// Writes the last digits of a number in base 16, so many, and gives the next place.
-pub fn put_hex(out: &mut [u8], at: usize, count: usize, n: u64) -> usize
-    ensures { Wrote out.old at (hexadecimal count n) result out.new }
-{
-    if count == 0 {
-        return at;
+    /// Writes bytes.
+    pub fn bytes(&mut self, bytes: &[u8])
+        ensures { Adds self.old bytes.now self.new }
+    {
+        for &byte in bytes {
+            self.byte(byte);
+        }
     }
-    let next = put_hex(out, at, count - 1, n / 16);
-    put_byte(out, next, hex_digit(n))
-}
 
-// Writes a number in decimal and the byte after it, and gives the next place.
-pub fn put_field(out: &mut [u8], at: usize, n: usize, end: u8) -> usize
-    ensures { Wrote out.old at (field n end) result out.new }
-{
-    let next = put_decimal(out, at, n as u64);
-    put_byte(out, next, end)
-}
+    /// Writes a number in decimal.
+    // By recursion: division finds the last digit first, and it is written last.
+    pub fn decimal(&mut self, n: u64)
+        ensures { Adds self.old (decimal n) self.new }
+    {
+        if n < 10 {
+            return self.byte(digit(n));
+        }
+        self.decimal(n / 10);
+        self.byte(digit(n % 10));
+    }
 
-// Writes the line of a refusal, and gives the next place.
-pub fn put_refusal(out: &mut [u8], at: usize, number: usize, place: usize) -> usize
-    ensures { Wrote out.old at (refusal number place) result out.new }
-{
-    let past_word = put_bytes(out, at, b"refused\t");
-    let past_number = put_field(out, past_word, number, b'\t');
-    put_field(out, past_number, place, b'\n')
+    /// Writes the last digits of a number in base 16, so many.
+    // By recursion, as `decimal`.
+    // Apart from `decimal`, which ends where the number does: one function for both would take both ends, and be no plainer.
+    pub fn hex(&mut self, count: usize, n: u64)
+        ensures { Adds self.old (hexadecimal count n) self.new }
+    {
+        if count > 0 {
+            self.hex(count - 1, n / 16);
+            self.byte(digit(n % 16));
+        }
+    }
+
+    /// Writes a number in decimal, and the byte after it.
+    pub fn field(&mut self, n: usize, end: u8)
+        ensures { Adds self.old (field n end) self.new }
+    {
+        self.decimal(n as u64);
+        self.byte(end);
+    }
+
+    /// Writes the line of a refusal: its number, and the place that goes with it.
+    pub fn refusal(&mut self, number: usize, place: usize)
+        ensures { Adds self.old (refusal number place) self.new }
+    {
+        self.bytes(b"refused\t");
+        self.field(number, b'\t');
+        self.field(place, b'\n');
+    }
 }

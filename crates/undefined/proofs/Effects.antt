@@ -17,20 +17,17 @@ use Rattle.shift.proofs.Regardless as Shifts
 use Rattle.bits.specs.declared.BitTest.{BitTest}
 use Rattle.bits.specs.Undefined.{test_undefined}
 use Rattle.bits.proofs.Regardless as Bits
-use Rattle.product.specs.declared.Division.{Division}
-use Rattle.product.specs.declared.Division.TheVariants.{Parts, Fault}
+use Rattle.std.specs.Prelude.{Option, None, Some}
+use Rattle.product.specs.declared.Parts.{Parts}
 use Rattle.product.specs.Undefined.{product_undefined, division_undefined}
 use Rattle.product.proofs.Regardless as Products
 use Rattle.machine.specs.declared.registers.Machine.{Machine}
-use Rattle.machine.specs.declared.memory.Stored.{Stored}
-use Rattle.machine.specs.declared.memory.Stored.TheVariants.{Done}
+use Rattle.machine.specs.Memory.{Stored, Done}
 use Rattle.machine.specs.Registers.{register, with_register, with_eip, with_flags, with_xmm, with_single, part, with_part}
 use Rattle.sense.specs.declared.Bits.{Bits}
 use Rattle.sense.specs.declared.Arithmetic.{Arithmetic}
 use Rattle.plan.specs.declared.Plan.{Plan}
-use Rattle.effect.specs.declared.outcome.Outcome.{Outcome}
-use Rattle.effect.specs.declared.outcome.Outcome.TheVariants.{Becomes, Writes, Sets, Faults}
-use Rattle.effect.specs.Outcomes.{Effect, Computed}
+use Rattle.effect.specs.Outcomes.{Outcome, Becomes, Writes, Sets, Faults, Effect, Computed}
 use Rattle.effect.specs.Words.{becomes, faults, onward, value}
 use Rattle.effect.specs.Bits.{bit_tested, scanned, double_shifted, bits_computed}
 use Rattle.effect.specs.Arithmetic as Effects
@@ -117,12 +114,12 @@ module _ (m : Machine) (g : Flags) (p : Plan) (a : ℕ) (d : List ℕ) where
   multiplied_signed_same b h = rw ((Products.product_settles _).regardless m.flags g h)
 
   -- a division, of which a fault leaves nothing
-  by_quotient : (q : Division) → DifferOnlyIn division_undefined m.flags g
+  by_quotient : (q : Option Parts) → DifferOnlyIn division_undefined m.flags g
       → Settled division_undefined (committed (Effects.quotient q m p).outcome (Effects.quotient q m p) m d)
       (committed (Effects.quotient q (with_flags m g) p).outcome (Effects.quotient q (with_flags m g) p) (with_flags m g) d)
   unfolding Regardless with_register with_eip with_flags with_part onward becomes faults committed division_undefined Effects.doubled Effects.quotient
-  by_quotient Fault h = stops
-  by_quotient (Parts q r) h = rw (← all_settle.regardless m.flags g h) (moves (all_settle.clear m.flags))
+  by_quotient None h = stops
+  by_quotient (Some d) h = rw (← all_settle.regardless m.flags g h) (moves (all_settle.clear m.flags))
 
   destination_same : (r : ℕ) → value p.destination (with_flags m g) r p.size ≡ value p.destination m r p.size
   destination_same r = value_same p.destination m g r p.size

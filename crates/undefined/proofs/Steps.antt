@@ -8,15 +8,16 @@ use Rattle.flags.specs.Undefined.{Flag, without, DifferOnlyIn}
 use Rattle.machine.specs.declared.registers.Machine.{Machine}
 use Rattle.machine.specs.Registers.{with_flags}
 use Rattle.grammar.specs.Decoding.{decode_of}
-use Rattle.grammar.specs.declared.instruction.Found.{Found}
+use Rattle.grammar.specs.Answers.{Found}
+use Rattle.std.specs.Prelude.{Ok, Err}
+use Rattle.grammar.specs.declared.instruction.Fault.{Fault}
 use Rattle.blockcheck.specs.Blocks.{code_base}
 use Rattle.sense.specs.declared.Arithmetic.{Arithmetic}
 use Rattle.sense.specs.declared.Operation.{Operation}
 use Rattle.plan.specs.declared.Plan.{Plan}
 use Rattle.plan.specs.Addresses.{effective_address}
 use Rattle.plan.specs.Plans.{plan_of}
-use Rattle.effect.specs.declared.outcome.Reads.{Reads}
-use Rattle.effect.specs.declared.outcome.Reads.TheVariants.{Nothing, One, Two}
+use Rattle.effect.specs.Outcomes.{Reads, Nothing, One, Two}
 use Rattle.effect.specs.Arithmetic.{arithmetic_address, arithmetic_reads}
 use Rattle.effect.specs.All.{address_by, reads_by, effect_by}
 use Rattle.effect.proofs.Choosing.{chosen_both}
@@ -108,9 +109,9 @@ module _ (constants : List ℕ) (p : Plan) (m : Machine) (g : Flags) (d : List �
 executed_settled : (fixed : Fixed) (f : Found) (m : Machine) (g : Flags) (d : List ℕ) → DifferOnlyIn (found_undefined fixed f m d) m.flags g
     → Settled (found_undefined fixed f m d) (executed fixed f m d) (executed fixed f (with_flags m g) d)
 unfolding with_flags found_undefined executed
-executed_settled fixed (Found.Instruction i) m g d h = planned_settled fixed.constants (plan_of m.eip i) m g d _ refl h
-executed_settled fixed Found.Cut m g d h = stops
-executed_settled fixed Found.Unknown m g d h = stops
+executed_settled fixed (Ok i) m g d h = planned_settled fixed.constants (plan_of m.eip i) m g d _ refl h
+executed_settled fixed (Err Fault.Cut) m g d h = stops
+executed_settled fixed (Err Fault.Unknown) m g d h = stops
 
 -- the machine with the other's flags
 with_others : (m m' : Machine) → m'.regs ≡ m.regs → m'.xmm ≡ m.xmm → m'.eip ≡ m.eip → m' ≡ with_flags m m'.flags

@@ -9,19 +9,18 @@ use Rattle.shift.specs.Undefined.{shift_undefined}
 use Rattle.bits.specs.Undefined.{test_undefined, scan_undefined, double_undefined}
 use Rattle.product.specs.Undefined.{product_undefined, division_undefined}
 use Rattle.machine.specs.declared.registers.Machine.{Machine}
-use Rattle.machine.specs.declared.memory.Loaded.{Loaded}
-use Rattle.machine.specs.declared.memory.Loaded.TheVariants.{Value}
-use Rattle.machine.specs.Memory.{load_of}
+use Rattle.machine.specs.Memory.{Loaded, Value, load_of}
 use Rattle.grammar.specs.Decoding.{decode_of}
-use Rattle.grammar.specs.declared.instruction.Found.{Found}
+use Rattle.grammar.specs.Answers.{Found}
+use Rattle.std.specs.Prelude.{Ok, Err}
+use Rattle.grammar.specs.declared.instruction.Fault.{Fault}
 use Rattle.blockcheck.specs.Blocks.{code_base}
 use Rattle.sense.specs.declared.Bits.{Bits}
 use Rattle.sense.specs.declared.Arithmetic.{Arithmetic}
 use Rattle.sense.specs.declared.Operation.{Operation}
 use Rattle.plan.specs.declared.Plan.{Plan}
 use Rattle.plan.specs.Plans.{plan_of}
-use Rattle.effect.specs.declared.outcome.Reads.{Reads}
-use Rattle.effect.specs.declared.outcome.Reads.TheVariants.{Nothing, One, Two}
+use Rattle.effect.specs.Outcomes.{Reads, Nothing, One, Two}
 use Rattle.effect.specs.Words.{value}
 use Rattle.effect.specs.All.{reads_by}
 use Rattle.run.specs.Steps.{Fixed, operand_address}
@@ -76,9 +75,9 @@ plan_undefined constants p m d =
 
 -- after the step of what is found at EIP
 unfoldable pub found_undefined : Fixed → Found → Machine → List ℕ → List Flag
-found_undefined fixed (Found.Instruction i) m d = plan_undefined fixed.constants (plan_of m.eip i) m d
-found_undefined fixed Found.Cut m d = []
-found_undefined fixed Found.Unknown m d = []
+found_undefined fixed (Ok i) m d = plan_undefined fixed.constants (plan_of m.eip i) m d
+found_undefined fixed (Err Fault.Cut) m d = []
+found_undefined fixed (Err Fault.Unknown) m d = []
 
 -- after a step
 unfoldable pub step_undefined : Fixed → Machine → List ℕ → List Flag

@@ -1,4 +1,4 @@
-// The unhex program: standard input holds a hex file, standard output its code.
+//! The unhex program: standard input holds a hex file, standard output its code.
 #![tactic(auto)]
 
 fn main(rt: HostRuntime) {

@@ -1,4 +1,5 @@
-// The unhex program: standard input holds a hex file, standard output its code.
+//! The unhex program: standard input holds a hex file, standard output its code.
+//! A program of its own, since a program has one stored input.
 #![tactic(auto)]
 
 fn main(rt: HostRuntime) {

@@ -13,6 +13,7 @@ use Rattle.text.specs.Ascii.{ascii}
 use Rattle.text.specs.Fields.{tab, newline, field, refused_word, refusal}
 use Rattle.text.proofs.Writing.{wrote_whole}
 use Rattle.text.proofs.Numbers.{decimal_short}
+use Rattle.std.specs.declared.option.Option.{Option}
 use Rattle.unhex_text.specs.Unhexing.{most, too_long_line, code_line, longest, Told, code, refused, too_long, Unhexed}
 use Rattle.unhex_text.specs.declared.Ends.{Ends}
 
@@ -46,7 +47,7 @@ unfolding field
 field_short n end h = rw length-append (omega (arith, decimal_short 6 n (omega arith)))
 
 -- no line is longer than the longest
-line_short : {size : ℕ} {text area after line : List ℕ} → Told text area size after line → length line ≤ longest
+line_short : {size : Option ℕ} {text area after line : List ℕ} → Told text area size after line → length line ≤ longest
 unfolding code_line too_long_line refusal refused_word ascii
 line_short (code {size} short some o) =
     let (_, inside, room) = accepted_sized o in

@@ -4,15 +4,17 @@ use mathlib.Core.List.{List}
 use Prim.Native.Nat.{ℕ}
 use native.Mathlib.Omega.{arith}
 use Rattle.intel_hex.proofs.Outcomes.{outcome_unique}
+use Rattle.std.specs.Prelude.{Some}
+use Rattle.std.specs.declared.option.Option.{Option}
 use Rattle.text.specs.Fields.{refusal}
 use Rattle.unhex_text.specs.Unhexing.{code_line, Told, code, refused, too_long, Unhexed}
 use Rattle.unhex_text.specs.declared.Ends.{Ends}
 
 -- any two answers to a text coincide
-told_unique : {a b : ℕ} {text area x y l m : List ℕ} → Told text area a x l → Told text area b y m → (a ≡ b) × (x ≡ y) × (l ≡ m)
+told_unique : {a b : Option ℕ} {text area x y l m : List ℕ} → Told text area a x l → Told text area b y m → (a ≡ b) × (x ≡ y) × (l ≡ m)
 told_unique (code short some o) (code small few p) =
     let (number, size, after) = outcome_unique o p in
-    (size, after, ap code_line size)
+    (ap Some size, after, ap code_line size)
 told_unique (code short some o) (refused small few p) =
     let (number, size, after) = outcome_unique o p in
     absurd (omega arith)

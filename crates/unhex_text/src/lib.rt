@@ -1,114 +1,110 @@
-// A hex file at the command line: its code, or a line that says why it is refused.
+//! A hex file at the command line: its code, or a line that says why it is refused.
 #![tactic(auto)]
 
-ghost use Rattle.std.specs.Prelude.{◌≤◌, length};
-ghost use Rattle.text.specs.Written.{Wrote};
-ghost use Rattle.unhex_text.specs.Unhexing.{code_line, longest, Unhexed};
+ghost use Rattle.std.specs.Prelude.{◌≤◌, length, IfSome};
+ghost use Rattle.text.specs.Written.{Adds};
+ghost use Rattle.unhex_text.specs.Unhexing.{code_line, Tells, Unhexed};
 
-use intel_hex::{number_of, value_of};
 use std::io::Read;
 use streams::read_full;
-use text::{put_bytes, put_field, put_refusal};
+use text::Buffer;
 
-// Where an answer ends: so many bytes of code, none where the file is refused, and so many of the line that tells it.
-#[derive(Clone, Copy)]
+/// Where an answer ends: so many bytes of code, none where the file is refused, and so many of the line that tells it.
+#[derive(Clone, Copy, Debug, PartialEq, Eq)]
 pub struct Ends {
-    pub code: usize,
+    pub code: Option<usize>,
     pub line: usize,
 }
 
-// The line of a file that is read, from the start of a buffer on.
-fn put_code(out: &mut [u8], size: usize) -> usize
-    ensures { Wrote out.old 0 (code_line size) result out.new }
+/// Writes the line of a file that is read.
+fn put_code(out: &mut Buffer, size: usize)
+    ensures { Adds out.old (code_line size) out.new }
 {
-    let past_word = put_bytes(out, 0, b"code\t");
-    put_field(out, past_word, size, b'\n')
+    out.bytes(b"code\t");
+    out.field(size, b'\n');
 }
 
-// Reads a file into the code area, and writes the line that tells the answer from the start of a buffer on.
+/// Reads a file into the code area, and writes the line that tells the answer. Gives how long its code is.
+fn tell(text: &[u8], code: &mut [u8], line: &mut Buffer) -> Option<usize>
+    ensures { Tells text.now code.old line.old result code.new line.new }
+{
+    if text.len() > 1048576 {
+        line.bytes(b"refused\tlonger than 1048576 bytes\n");
+        return None;
+    }
+    match intel_hex::read(text, code) {
+        Ok(size) => {
+            put_code(line, size);
+            Some(size)
+        }
+        Err(refused) => {
+            let number = refused.fault.number() as usize;
+            line.refusal(number, refused.line);
+            None
+        }
+    }
+}
+
+/// Reads a file into the code area, and writes the line that tells the answer from the start of a buffer on.
 pub fn unhex(text: &[u8], code: &mut [u8], line: &mut [u8]) -> Ends
     ensures { Unhexed text.now code.old line.old result code.new line.new }
 {
-    if text.len() > 1048576 {
-        let end = put_bytes(line, 0, b"refused\tlonger than 1048576 bytes\n");
-        return Ends { code: 0, line: end };
+    let mut told = Buffer::new(line);
+    let code = tell(text, code, &mut told);
+    Ends {
+        code,
+        line: told.at,
     }
-    let answer = intel_hex::read(text, code);
-    let number = number_of(answer) as usize;
-    let value = value_of(answer);
-    if number == 0 {
-        let end = put_code(line, value);
-        return Ends {
-            code: value,
-            line: end,
-        };
-    }
-    let end = put_refusal(line, 0, number, value);
-    Ends { code: 0, line: end }
 }
 
-// Writes the answer, by way of a buffer in which no line is cut: its line alone to `out`, or else the code there, or the line to `err`.
-fn write_answer(
-    text: &[u8],
-    line_only: bool,
-    code: &mut [u8],
-    line: &mut [u8],
-    out: &impl Print,
-    err: &impl Print,
-)
-    requires { longest ≤ length line.old }
+/// Reads a file by way of a buffer for its text, and answers it.
+fn answer_by<R: Read>(from: &mut R, text: &mut [u8], code: &mut [u8], line: &mut [u8]) -> Ends
+    ensures code { IfSome result.code (λ size. size ≤ length code.new) }
+    ensures line { result.line ≤ length line.new }
 {
-    let ends = unhex(text, code, line);
-    let size = ends.code;
-    let end = ends.line;
-    if line_only {
-        out.write_all(&line[..end]).ok();
-        return;
-    }
-    if size == 0 {
-        err.write_all(&line[..end]).ok();
-        return;
-    }
-    out.write_all(&code[..size]).ok();
-}
-
-// Reads a file into a buffer, and writes the answer to it.
-fn answer_by<R: Read>(
-    from: &mut R,
-    line_only: bool,
-    text: &mut [u8],
-    out: &impl Print,
-    err: &impl Print,
-) {
     let size = read_full(from, text);
-    let mut code = [0u8; 65536];
-    let mut line = [0u8; 34];
-    write_answer(&text[..size], line_only, &mut code, &mut line, out, err);
+    unhex(&text[..size], code, line)
 }
 
-// The same by way of a buffer with one byte more than a file may have: that is enough to refuse it.
+/// The same by way of a buffer with one byte more than a file may have: that is enough to refuse it.
+// A step between, since without it the check of `answer` runs out of stack.
 fn answer_whole<R: Read>(
     from: &mut R,
-    line_only: bool,
     text: &mut [u8; 1048577],
-    out: &impl Print,
-    err: &impl Print,
-) {
-    answer_by(from, line_only, text, out, err);
+    code: &mut [u8],
+    line: &mut [u8],
+) -> Ends
+    ensures code { IfSome result.code (λ size. size ≤ length code.new) }
+    ensures line { result.line ≤ length line.new }
+{
+    answer_by(from, text, code, line)
 }
 
-// Writes the answer to a file.
-fn answer<R: Read>(from: &mut R, line_only: bool, out: &impl Print, err: &impl Print) {
+/// Reads a file, and answers it.
+// A fixed buffer: the functions over this cannot fail, as a `Vec` can, and `read_to_end` would read on after an interrupted read.
+fn answer<R: Read>(from: &mut R, code: &mut [u8], line: &mut [u8]) -> Ends
+    ensures code { IfSome result.code (λ size. size ≤ length code.new) }
+    ensures line { result.line ≤ length line.new }
+{
     let mut text = [0u8; 1048577];
-    answer_whole(from, line_only, &mut text, out, err);
+    answer_whole(from, &mut text, code, line)
 }
 
-// Writes the code of the hex file that is read to `out`, or why it is refused to `err`. A write that fails is dropped, and a read that fails ends the input.
+/// Writes the code of the hex file that is read to `out`, or why it is refused to `err`. A write that fails is dropped, and a read that fails ends the input.
 pub fn unhex_input<R: Read>(from: &mut R, out: &impl Print, err: &impl Print) {
-    answer(from, false, out, err);
+    let mut code = [0u8; 65536];
+    let mut line = [0u8; 34];
+    let ends = answer(from, &mut code, &mut line);
+    match ends.code {
+        Some(size) => out.write_all(&code[..size]).ok(),
+        None => err.write_all(&line[..ends.line]).ok(),
+    };
 }
 
-// Says what is found of a hex file: how long its code is, or why it is refused. A write that fails is dropped, and a read that fails ends the input.
+/// Says what is found of a hex file: how long its code is, or why it is refused. A write that fails is dropped, and a read that fails ends the input.
 pub fn say_file<R: Read>(from: &mut R, out: &impl Print) {
-    answer(from, true, out, out);
+    let mut code = [0u8; 65536];
+    let mut line = [0u8; 34];
+    let ends = answer(from, &mut code, &mut line);
+    out.write_all(&line[..ends.line]).ok();
 }

@@ -1,11 +1,11 @@
 -- What came out against the line, a field at a time. Assumes nothing.
-use Rattle.std.proofs.Common.{◌≡◌, ℕ, suc, ◌+◌, ◌%◌, ◌^◌, ◌<◌, ◌≤◌, Bool, true, false, cond, List, [], ◌∷◌, ◌++◌, length, get_or, drop, refl, ◌∙◌, add-one, arith, drop_of_length-le, drop-cons, eq-eqb, ne_eqb}
+use Rattle.std.proofs.Common.{◌≡◌, ℕ, suc, ◌+◌, ◌%◌, ◌^◌, ◌<◌, ◌≤◌, Bool, true, false, cond, List, Err, [], ◌∷◌, ◌++◌, length, get_or, take, drop, length-drop, get_or-drop, append_assoc, refl, ◌∙◌, add-one, arith, drop_of_length-le, drop-cons, eq-eqb, ne_eqb}
+use Rattle.std.proofs.lemmas.List.{take_more}
 use Rattle.vector_text.specs.Hex.{value_of, bytes_of, is_held}
 use Rattle.vector_text.specs.Fields.{field_of}
-use Rattle.vector_run.specs.declared.judging.Finding.{Finding}
-use Rattle.vector_run.specs.declared.judging.Finding.TheVariants.{Same, DiffersIn}
+use Rattle.vector_run.specs.declared.difference.Difference.{Difference}
 use Rattle.vector_run.specs.Cases.{number_of}
-use Rattle.vector_run.specs.Findings.{Told, agrees, field_for, first_other, first_found, numbers_from}
+use Rattle.vector_run.specs.Findings.{Finding, Same, DiffersIn, Told, agrees, field_for, first_other, numbers_from, results_of, singles_of, run_told}
 
 module _ (line : List ℕ) (k n : ℕ) (later : List Told) where
   -- a number that the line has too
@@ -64,19 +64,52 @@ pub compare_ends : {line numbers : List ℕ} {first i : ℕ} → Comparing line 
 unfolding first_other numbers_from
 compare_ends {numbers} so over = so.rest ∙ rw (drop_of_length-le numbers over)
 
--- the first of two findings, by what is told first
-one_told : (same : Bool) (found later : Finding) (k : ℕ) → cond same (first_found found later) (DiffersIn k) ≡ first_found (cond same found (DiffersIn k)) later
-unfolding first_found
-one_told true found later k = refl
-one_told false found later k = refl
+-- one value more that is told first
+later_by : (t : Bool) {first both later : Finding} (k : ℕ) → cond t first (DiffersIn k) ≡ Same → (first ≡ Same → both ≡ later) → cond t both (DiffersIn k) ≡ later
+later_by true k is goes = goes is
+later_by false k is goes = absurd (let z : ◌≡◌ {A = ℕ} 0 1 = cc in omega arith)
 
--- of what is told and what is told later, the first that differs
-told_both : (line : List ℕ) (told later : List Told) → first_other line (told ++ later) ≡ first_found (first_other line told) (first_other line later)
-unfolding first_other first_found
-told_both line [] later = refl
-told_both line (one ∷ told) later = rw (told_both line told later) (one_told (agrees line one) (first_other line told) (first_other line later) (field_for one))
+first_by : (t : Bool) {first both : Finding} {difference : Difference} (k : ℕ) → cond t first (DiffersIn k) ≡ Err difference
+    → (first ≡ Err difference → both ≡ Err difference) → cond t both (DiffersIn k) ≡ Err difference
+first_by true k is goes = goes is
+first_by false k is goes = is
 
--- three findings, of what is told one after another
-pub told_three : (line : List ℕ) (a b c : List Told) {x y z later r : Finding} → x ≡ first_other line a → y ≡ first_other line b → z ≡ first_other line c
-    → later ≡ first_found y z → r ≡ first_found x later → r ≡ first_other line (a ++ (b ++ c))
-told_three line a b c is_a is_b is_c behind found = found ∙ rw (behind, is_a, is_b, is_c, told_both line a (b ++ c), told_both line b c)
+-- what is told later decides, if all that is told first agrees
+pub told_later : (line : List ℕ) (told later : List Told) → first_other line told ≡ Same → first_other line (told ++ later) ≡ first_other line later
+unfolding first_other
+told_later line [] later is = refl
+told_later line (one ∷ told) later is = later_by (agrees line one) (field_for one) is (told_later line told later)
+
+-- what is told first decides, if some of it does not agree
+pub told_first : (line : List ℕ) (told later : List Told) {difference : Difference} → first_other line told ≡ Err difference → first_other line (told ++ later) ≡ Err difference
+unfolding first_other
+told_first line [] later is = absurd (let z : ◌≡◌ {A = ℕ} 0 1 = cc in omega arith)
+told_first line (one ∷ told) later is = first_by (agrees line one) (field_for one) is (told_first line told later)
+
+-- a run's numbers, in two parts: its own three, and the machine but for its singles
+pub results_parts : (number : ℕ) (state : List ℕ) → length state ≡ 20
+    → numbers_from 17 (results_of number state) ≡ numbers_from 17 (number ∷ get_or state 18 0 ∷ get_or state 19 0 ∷ []) ++ numbers_from 20 (take 10 state)
+unfolding results_of numbers_from
+results_parts number state long =
+    let inside = λ (k : ℕ) (h : k < 10). take_more state k 0 (omega arith) in
+    rw (inside 9 (omega arith), inside 8 (omega arith), inside 7 (omega arith), inside 6 (omega arith), inside 5 (omega arith), inside 4 (omega arith), inside 3 (omega arith), inside 2 (omega arith), inside 1 (omega arith), inside 0 (omega arith))
+
+-- its singles
+pub singles_part : (state : List ℕ) → length state ≡ 20 → singles_of state ≡ take 8 (drop 10 state)
+unfolding singles_of
+singles_part state long =
+    let rest = drop 10 state in
+    let left : length rest ≡ 10 = length-drop 10 state ∙ rw long in
+    let inside = λ (k : ℕ) (h : k < 8). take_more rest k 0 (omega arith) in
+    let at = λ (k : ℕ). get_or-drop 10 state k 0 in
+    rw (inside 7 (omega arith), inside 6 (omega arith), inside 5 (omega arith), inside 4 (omega arith), inside 3 (omega arith), inside 2 (omega arith), inside 1 (omega arith), inside 0 (omega arith), at 0, at 1, at 2, at 3, at 4, at 5, at 6, at 7)
+
+-- what a run tells, part by part as it is compared
+pub run_parts : (number : ℕ) (state area : List ℕ) → length state ≡ 20
+    → run_told number state area
+    ≡ numbers_from 17 (number ∷ get_or state 18 0 ∷ get_or state 19 0 ∷ [])
+    ++ (numbers_from 20 (take 10 state) ++ (numbers_from 42 (take 8 (drop 10 state)) ++ (Told.the_area 31 area ∷ [])))
+unfolding run_told
+run_parts number state area long =
+    rw (results_parts number state long, singles_part state long)
+    (append_assoc (numbers_from 17 (number ∷ get_or state 18 0 ∷ get_or state 19 0 ∷ [])) (numbers_from 20 (take 10 state)) _)

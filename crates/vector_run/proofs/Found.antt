@@ -1,16 +1,13 @@
 -- From what the calls give to the finding of a case. Assumes nothing.
-use Rattle.std.proofs.Common.{◌≡◌, ℕ, ◌%◌, ◌^◌, ◌≤◌, true, false, List, [], ◌∷◌, ◌++◌, length, get_or, take, drop, refl, ◌∙◌, arith, length-take-le, leb-true}
+use Rattle.std.proofs.Common.{◌≡◌, ℕ, ◌%◌, ◌^◌, ◌≤◌, true, false, List, [], ◌∷◌, length, get_or, take, refl, ◌∙◌, arith, length-take-le}
 use Rattle.run.specs.Steps.{fixed_to}
 use Rattle.sangolid.specs.Interface.{call_of, Calls, Checks, unfit, judged, Unhexes, unfit_answer}
 use Rattle.sangolid.specs.Interface.{unhexed as was_unhexed}
-use Rattle.text.proofs.Tests.{both_hold}
 use Rattle.vector_text.specs.Hex.{value_of, bytes_of, padded}
 use Rattle.vector_text.specs.Fields.{field_of}
-use Rattle.vector_run.specs.declared.judging.Finding.{Finding}
-use Rattle.vector_run.specs.declared.judging.Finding.TheVariants.{Malformed}
 use Rattle.vector_run.specs.declared.judging.Kind.{Kind}
 use Rattle.vector_run.specs.Cases.{number_of, state_before, area_fits, pad_to, code_of, area_of, constants_of}
-use Rattle.vector_run.specs.Findings.{Told, first_other, numbers_from, results_of, singles_of, ran_told, answer_told, lent_finding, run_finding, CheckFinds, checked, HexFinds, unhexed, KindFinds, SizedFinds, sized}
+use Rattle.vector_run.specs.Findings.{Finding, Malformed, first_other, run_told, answer_told, lent_finding, run_finding, CheckFinds, checked, HexFinds, unhexed, KindFinds, SizedFinds, no_code, no_area, sized}
 
 -- an area filled from a field
 pub filled : (line : List ℕ) (k n : ℕ) {text after : List ℕ} → text ≡ field_of line k → after ≡ padded n (bytes_of text) → after ≡ pad_to line k n
@@ -18,13 +15,13 @@ unfolding pad_to
 filled line k n is fills = rw (← is) fills
 
 -- what the run's call gives, compared, is its finding
-pub lent_found : (line code d : List ℕ) (size : ℕ) {text constants state told before after : List ℕ} {n budget : ℕ} {r : Finding}
+pub lent_found : (line code d : List ℕ) (size : ℕ) {text constants state before after : List ℕ} {n budget : ℕ} {r : Finding}
     → text ≡ field_of line 33 → constants ≡ padded size (bytes_of text) → before ≡ state_before line → budget ≡ value_of (field_of line 12) % 2 ^ 64
-    → Calls (call_of before (fixed_to code constants) d budget) n state after → told ≡ results_of n state ++ singles_of state
-    → r ≡ first_other line (numbers_from 17 (take 13 told) ++ (numbers_from 42 (take 8 (drop 13 told)) ++ (Told.the_area 31 after ∷ []))) → r ≡ lent_finding line code (pad_to line 33 size) d
-unfolding lent_finding ran_told results_of singles_of number_of
-lent_found line code d size is fills start steps calls results found =
-    found ∙ rw (results, calls.is, calls.state_left, calls.area_left, start, steps, filled line 33 size is fills)
+    → Calls (call_of before (fixed_to code constants) d budget) n state after → r ≡ first_other line (run_told n state after)
+    → r ≡ lent_finding line code (pad_to line 33 size) d
+unfolding lent_finding number_of
+lent_found line code d size is fills start steps calls found =
+    found ∙ rw (calls.is, calls.state_left, calls.area_left, start, steps, filled line 33 size is fills)
 
 -- what the check's call gives, compared, is its finding
 pub check_found : {line code marks after answer : List ℕ} {n : ℕ} {r : Finding} → Checks code marks (0 ∷ []) n after answer
@@ -54,16 +51,9 @@ module _ {kind : Kind} (line : List ℕ) {code d code' d' : List ℕ} {r : Findi
   unfolding KindFinds
   kind_hex is found = rw (is, ← code_is, ← d_is) found
 
--- a size that fits has room
-pub fits_room : (line : List ℕ) (k : ℕ) → area_fits line k ≡ true → value_of (field_of line k) % 2 ^ 64 ≤ 65540
-unfolding area_fits number_of
-fits_room line k h = leb-true _ _ (both_hold _ _ h).0
-
 -- so much of a room is a size that fits it
-room_part : (line room : List ℕ) (k n : ℕ) → area_fits line k ≡ true → n ≡ value_of (field_of line k) % 2 ^ 64 → 65540 ≡ length room
-    → length (take n room) ≡ number_of line k
-unfolding number_of
-room_part line room k n fits is long = length-take-le n room (omega (arith, fits_room line k fits)) ∙ is
+room_part : (line room : List ℕ) (k n : ℕ) → n ≡ number_of line k → n ≤ 65540 → 65540 ≡ length room → length (take n room) ≡ number_of line k
+room_part line room k n is fits long = length-take-le n room (omega arith) ∙ is
 
 module _ (line code d : List ℕ) {r : Finding} where
   -- a run whose constants don't fit
@@ -72,15 +62,24 @@ module _ (line code d : List ℕ) {r : Finding} where
   run_unfit no_room is = is ∙ rw no_room
 
   -- a run over the constants of its line
-  pub run_found : (room : List ℕ) {n : ℕ} → area_fits line 32 ≡ true → n ≡ value_of (field_of line 32) % 2 ^ 64 → 65540 ≡ length room
+  pub run_found : (room : List ℕ) {n : ℕ} → (area_fits line 32 ≡ true) × (n ≡ number_of line 32) × (n ≤ 65540) → 65540 ≡ length room
       → r ≡ lent_finding line code (pad_to line 33 (length (take n room))) d → r ≡ run_finding line code d
   unfolding run_finding constants_of
-  run_found room {n} fits is long found = found ∙ rw (fits, room_part line room 32 n fits is long)
+  run_found room {n} (fits, is, most) long found = found ∙ rw (fits, room_part line room 32 n is most long)
 
--- a case over the areas of its line
-pub sized_found : {kind : Kind} {line : List ℕ} (code d : List ℕ) {m n : ℕ} {r : Finding} → area_fits line 13 ≡ true → area_fits line 15 ≡ true
-    → m ≡ value_of (field_of line 13) % 2 ^ 64 → n ≡ value_of (field_of line 15) % 2 ^ 64 → 65540 ≡ length code → 65540 ≡ length d
-    → KindFinds kind line (pad_to line 14 (length (take m code))) (pad_to line 16 (length (take n d))) r → SizedFinds kind line r
-unfolding code_of area_of
-sized_found {line} code d {m} {n} code_fits data_fits m_is n_is code_long d_long found =
-    sized code_fits data_fits (rw (room_part line code 13 m code_fits m_is code_long, room_part line d 15 n data_fits n_is d_long) at found)
+module _ {kind : Kind} (line : List ℕ) {r : Finding} where
+  -- a case whose code does not fit
+  pub sized_no_code : area_fits line 13 ≡ false → r ≡ Malformed → SizedFinds kind line r
+  sized_no_code fails is = rw is (no_code fails)
+
+  -- a case whose area does not fit
+  pub sized_no_area : area_fits line 15 ≡ false → r ≡ Malformed → SizedFinds kind line r
+  sized_no_area fails is = rw is (no_area fails)
+
+  -- a case over the areas of its line
+  pub sized_found : (code d : List ℕ) {m n : ℕ} → (area_fits line 13 ≡ true) × (m ≡ number_of line 13) × (m ≤ 65540)
+      → (area_fits line 15 ≡ true) × (n ≡ number_of line 15) × (n ≤ 65540) → 65540 ≡ length code → 65540 ≡ length d
+      → KindFinds kind line (pad_to line 14 (length (take m code))) (pad_to line 16 (length (take n d))) r → SizedFinds kind line r
+  unfolding code_of area_of
+  sized_found code d {m} {n} (code_fits, m_is, m_most) (d_fits, n_is, n_most) code_long d_long found =
+      sized code_fits d_fits (rw (room_part line code 13 m m_is m_most code_long, room_part line d 15 n n_is n_most d_long) at found)

@@ -1,11 +1,9 @@
 -- A finding and a tally are determined, and no field differs exactly where all agree. Assumes nothing.
 use Rattle.std.proofs.Common.{◌≡◌, ℕ, Bool, true, false, cond, List, [], ◌∷◌, sym, refl, ap, ◌∙◌, true≢false, arith}
 use Rattle.sangolid.proofs.Outcomes.{checks_unique, unhexes_unique}
-use Rattle.vector_run.specs.declared.judging.Finding.{Finding}
-use Rattle.vector_run.specs.declared.judging.Finding.TheVariants.{Same, DiffersIn}
 use Rattle.vector_run.specs.declared.judging.Kind.{Kind}
 use Rattle.vector_run.specs.declared.tally.Tally.{Tally}
-use Rattle.vector_run.specs.Findings.{Told, agrees, Agree, field_for, first_other, CheckFinds, checked, HexFinds, unhexed, KindFinds, SizedFinds, no_code, no_area, sized, Finds, of_run, of_check, of_hex, of_none}
+use Rattle.vector_run.specs.Findings.{Finding, Same, DiffersIn, Told, agrees, Agree, field_for, first_other, CheckFinds, checked, HexFinds, unhexed, KindFinds, SizedFinds, no_code, no_area, sized, Finds, of_run, of_check, of_hex, of_none}
 use Rattle.vector_run.specs.Counts.{counted}
 use Rattle.vector_run.specs.Lines.{TakesLine, too_long, the_header, a_case, Takes, no_more, a_byte, a_line}
 

@@ -1,10 +1,8 @@
 -- Bytes of the input, one after another. Assumes nothing.
-use Rattle.std.proofs.Common.{◌≡◌, ℕ, ◌+◌, ◌<◌, ◌≤◌, false, List, [], ◌∷◌, ◌++◌, length, get_or, take, set, refl, ◌∙◌, add-one, arith, length-set, length-take-le, take_all, take-suc, take-suc-set, le-ltb, lt-ltb}
-use Rattle.vector_run.specs.declared.judging.Finding.{Finding}
-use Rattle.vector_run.specs.declared.judging.Finding.TheVariants.{Malformed}
+use Rattle.std.proofs.Common.{◌≡◌, ℕ, ◌+◌, ◌<◌, ◌≤◌, false, List, [], ◌∷◌, ◌++◌, length, get_or, take, set, refl, add-one, arith, length-take-le, take-suc, take-suc-set, le-ltb, lt-ltb}
 use Rattle.vector_run.specs.declared.tally.Tally.{Tally}
-use Rattle.vector_run.specs.declared.reading.Taken.{Taken}
-use Rattle.vector_run.specs.Findings.{Finds}
+use Rattle.vector_run.specs.declared.taken.Taken.{Taken}
+use Rattle.vector_run.specs.Findings.{Finding, Malformed, Finds}
 use Rattle.vector_run.specs.Counts.{counted}
 use Rattle.vector_run.specs.Lines.{newline, room, is_header, TakesLine, too_long, a_case, TakesRest, no_rest, a_rest, hold, Takes, no_more, a_byte, a_line, Took}
 
@@ -56,40 +54,30 @@ hold_none line n b long h most =
     rw (le-ltb _ _ full)
 
 -- nothing is taken
-pub took_none : {line : List ℕ} {prior : Taken} → length line ≡ room → prior.held ≤ room → Took line prior [] line prior
-took_none long within = record { takes = no_more; within = within; kept = long }
+pub took_none : (before : Taken) → Took before [] before
+unfolding Took
+took_none before = no_more
 
-module _ {line : List ℕ} {prior : Taken} {b : ℕ} (long : length line ≡ room) (within : prior.held ≤ room) where
+module _ (before after : Taken) {b : ℕ} where
   -- a newline
-  pub took_line : {t : Tally} → b ≡ newline → TakesLine (take prior.held line) prior.tally t
-      → Took line prior (b ∷ []) line (record { tally = t; held = 0 })
-  took_line is ended = record { takes = takes_line is ended; within = omega arith; kept = long }
+  pub took_line : b ≡ newline → TakesLine (take before.held before.line) before.tally after.tally → after.held ≡ 0 → Took before (b ∷ []) after
+  unfolding Took
+  took_line is ended none = rw none (takes_line is ended)
 
   -- a byte that is held
-  pub took_byte : (b ≡ newline → ⊥) → prior.held < length line
-      → Took line prior (b ∷ []) (set line prior.held b) (record { tally = prior.tally; held = prior.held + 1 })
-  took_byte other h =
-      record {
-        takes = takes_byte other (hold_more line prior.held b long h);
-        within = omega arith;
-        kept = length-set line prior.held b ∙ long;
-      }
+  pub took_byte : (b ≡ newline → ⊥) → length before.line ≡ room → before.held < length before.line
+      → after.tally ≡ before.tally → after.line ≡ set before.line before.held b → after.held ≡ before.held + 1 → Took before (b ∷ []) after
+  unfolding Took
+  took_byte other long h tally line held = rw (tally, line, held) (takes_byte other (hold_more before.line before.held b long h))
 
-  -- a byte of a line that is too long
-  pub took_full : (b ≡ newline → ⊥) → length line ≤ prior.held → Took line prior (b ∷ []) line prior
-  took_full other h = record { takes = takes_byte other (hold_none line prior.held b long h within); within = within; kept = long }
+-- a byte of a line that is too long
+pub took_full : (taken : Taken) {b : ℕ} → (b ≡ newline → ⊥) → length taken.line ≡ room → length taken.line ≤ taken.held → taken.held ≤ room
+    → Took taken (b ∷ []) taken
+unfolding Took
+took_full taken {b} other long h most = takes_byte other (hold_none taken.line taken.held b long h most)
 
 -- so many bytes, and then the next of them: one more
-pub took_next : {line mid after : List ℕ} {prior between later : Taken} (bytes : List ℕ) (i : ℕ) → i < length bytes
-    → Took line prior (take i bytes) mid between → Took mid between (get_or bytes i 0 ∷ []) after later → Took line prior (take (i + 1) bytes) after later
-took_next bytes i h first second =
-    record {
-      takes = rw (add-one, take-suc bytes i 0 h) (takes_both first.takes second.takes);
-      within = second.within;
-      kept = second.kept;
-    }
-
--- all of the bytes
-pub took_all : {line after : List ℕ} {prior later : Taken} (bytes : List ℕ) (i : ℕ) → length bytes ≤ i → Took line prior (take i bytes) after later
-    → Took line prior bytes after later
-took_all bytes i h took = rw (take_all i bytes h) at took
+pub took_next : (before between after : Taken) (bytes : List ℕ) (i : ℕ) → i < length bytes
+    → Took before (take i bytes) between → Took between (get_or bytes i 0 ∷ []) after → Took before (take (i + 1) bytes) after
+unfolding Took
+took_next before between after bytes i h first second = rw (add-one, take-suc bytes i 0 h) (takes_both first second)

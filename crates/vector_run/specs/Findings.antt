@@ -1,13 +1,30 @@
 -- The finding of a case: the first field in which it comes out otherwise than its line says. Assumes nothing.
-use Rattle.std.specs.Prelude.{◌≡◌, ℕ, suc, Bool, true, false, List, [], ◌∷◌, ◌++◌, map, ◌==◌, slice_index, if◌then◌else◌}
+use Rattle.std.specs.Prelude.{◌≡◌, ℕ, suc, Bool, true, false, List, [], ◌∷◌, ◌++◌, map, ◌==◌, slice_index, if◌then◌else◌, Result, Ok, Err}
+use denote.Ref.{Bor, MutBor}
 use Rattle.run.specs.Steps.{fixed_to}
 use Rattle.sangolid.specs.Interface.{Call, call_of, Checks, Unhexes}
 use Rattle.vector_text.specs.Hex.{bytes_of, is_held}
 use Rattle.vector_text.specs.Fields.{field_of}
-use Rattle.vector_run.specs.declared.judging.Finding.{Finding}
+use Rattle.vector_run.specs.declared.difference.Difference.{Difference}
+use Rattle.vector_run.specs.declared.difference.Difference.TheVariants.{Field, Malformed as malformed}
 use Rattle.vector_run.specs.declared.judging.Kind.{Kind}
-use Rattle.vector_run.specs.declared.judging.Finding.TheVariants.{Same, DiffersIn, Malformed}
 use Rattle.vector_run.specs.Cases.{number_of, state_before, area_fits, code_of, area_of, constants_of, is_run, is_check, is_hex}
+
+-- what is found of a case
+abbrev pub Finding : Type 0
+Finding = Result (Unit {0}) Difference
+
+-- it comes out as its line says
+abbrev pub Same : Finding
+Same = Ok tt
+
+-- it differs first in the field of a number
+abbrev pub DiffersIn : ℕ → Finding
+DiffersIn k = Err (Field k)
+
+-- its line is malformed
+abbrev pub Malformed : Finding
+Malformed = Err malformed
 
 -- what came out, for a field of the line: a number, or an area
 pub data Told : Type 0 where
@@ -34,12 +51,6 @@ unfoldable pub first_other : List ℕ → List Told → Finding
 first_other line [] = Same
 first_other line (told ∷ later) = if agrees line told then first_other line later else DiffersIn (field_for told)
 
--- of two findings the first, unless it is the same: then the later one; for private functions on the way
-unfoldable pub first_found : Finding → Finding → Finding
-first_found Same later = later
-first_found (DiffersIn k) later = DiffersIn k
-first_found Malformed later = Malformed
-
 -- numbers for the fields from k on
 unfoldable pub numbers_from : ℕ → List ℕ → List Told
 numbers_from k [] = []
@@ -58,10 +69,13 @@ unfoldable pub singles_of : List ℕ → List ℕ
 singles_of state = words_at state (10 ∷ 11 ∷ 12 ∷ 13 ∷ 14 ∷ 15 ∷ 16 ∷ 17 ∷ [])
 
 -- what a run tells: these numbers, then these singles, then the data after in field 31
-unfoldable pub ran_told : Call → List Told
-ran_told call =
-    numbers_from 17 (results_of call.number call.state)
-    ++ (numbers_from 42 (singles_of call.state) ++ (Told.the_area 31 call.area ∷ []))
+unfoldable pub run_told : ℕ → List ℕ → List ℕ → List Told
+run_told number state area =
+    numbers_from 17 (results_of number state) ++ (numbers_from 42 (singles_of state) ++ (Told.the_area 31 area ∷ []))
+
+-- the same of a call
+abbrev pub ran_told : Call → List Told
+ran_told call = run_told call.number call.state call.area
 
 -- what a check or a hex file tells: its number in field 17, the answer in field 19, the marks or the code area after in field 31
 unfoldable pub answer_told : ℕ → ℕ → List ℕ → List Told
@@ -84,6 +98,21 @@ pub data CheckFinds (line code marks : List ℕ) : Finding → Type 0 where
 pub data HexFinds (line text code : List ℕ) : Finding → Type 0 where
   unhexed : {number value : ℕ} {after : List ℕ} → Unhexes text code (0 ∷ []) number after (value ∷ [])
       → HexFinds line text code (first_other line (answer_told number value after))
+
+-- the finding of a call over code and an area, with room for an answer of one word; `gives` says what the call may give, for private functions on the way
+abbrev pub CallFinds : (Bor (List ℕ) → MutBor (List ℕ) → MutBor (List ℕ) → ℕ → MutBor (List ℕ) → MutBor (List ℕ) → Type 0) → List ℕ → List ℕ → List ℕ → Finding → Type 0
+CallFinds gives line code area r =
+    (c : Bor (List ℕ))
+    × (a : MutBor (List ℕ))
+    × (room : MutBor (List ℕ))
+    × (number : ℕ)
+    × (after : MutBor (List ℕ))
+    × (answer : MutBor (List ℕ))
+    × gives c a room number after answer
+    × (c.now ≡ code)
+    × (a.now ≡ area)
+    × (room.now ≡ 0 ∷ [])
+    × (r ≡ first_other line (answer_told number (slice_index answer.now 0) after.now))
 
 -- the finding of a case of a kind
 unfoldable pub KindFinds : Kind → List ℕ → List ℕ → List ℕ → Finding → Type 0

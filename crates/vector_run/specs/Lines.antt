@@ -3,11 +3,9 @@ use Rattle.std.specs.Prelude.{◌≡◌, ℕ, ◌<◌, ◌≤◌, Bool, true, fa
 use Rattle.text.specs.Ascii.{ascii}
 use Rattle.vector_text.specs.Hex.{equal}
 use Rattle.vector_text.specs.Fields.{field_of}
-use Rattle.vector_run.specs.declared.judging.Finding.{Finding}
-use Rattle.vector_run.specs.declared.judging.Finding.TheVariants.{Malformed}
 use Rattle.vector_run.specs.declared.tally.Tally.{Tally}
-use Rattle.vector_run.specs.declared.reading.Taken.{Taken}
-use Rattle.vector_run.specs.Findings.{Finds}
+use Rattle.vector_run.specs.declared.taken.Taken.{Taken}
+use Rattle.vector_run.specs.Findings.{Finding, Malformed, Finds}
 use Rattle.vector_run.specs.Counts.{counted}
 
 -- what ends a line
@@ -19,7 +17,7 @@ abbrev pub room : ℕ
 room = 1024
 
 -- a header, before the first case
-unfoldable pub is_header : Tally → List ℕ → Bool
+abbrev pub is_header : Tally → List ℕ → Bool
 is_header t line = t.cases == 0 && equal (field_of line 1) (ascii "kind")
 
 -- the tally after a line
@@ -43,8 +41,6 @@ pub data Takes : List ℕ → Tally → List ℕ → List ℕ → Tally → Type
   a_byte : {held bytes after : List ℕ} {t r : Tally} {b : ℕ} → (b ≢ newline) → Takes (hold held b) t bytes after r → Takes held t (b ∷ bytes) after r
   a_line : {held bytes after : List ℕ} {t mid r : Tally} → TakesLine held t mid → Takes [] mid bytes after r → Takes held t (newline ∷ bytes) after r
 
--- the same by way of a buffer, at whose start so many bytes are held
-pub record Took (buffer : List ℕ) (before : Taken) (bytes buffer_after : List ℕ) (after : Taken) : Type 0 where
-  pub takes : Takes (take before.held buffer) before.tally bytes (take after.held buffer_after) after.tally
-  pub within : after.held ≤ room
-  pub kept : length buffer_after ≡ room
+-- the same of what is taken before and after, whose line begins with the bytes that are held
+unfoldable pub Took : Taken → List ℕ → Taken → Type 0
+Took before bytes after = Takes (take before.held before.line) before.tally bytes (take after.held after.line) after.tally

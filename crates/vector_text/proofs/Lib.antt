@@ -2,4 +2,3 @@
 pub mod Digits
 pub mod Bytes
 pub mod Parts
-pub mod Forms

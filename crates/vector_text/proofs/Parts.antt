@@ -1,134 +1,48 @@
--- The fields of a line, from places in it. Assumes nothing.
-use mathlib.Core.Path.{◌≡◌, refl, ap, sym, ◌∙◌}
-use mathlib.Core.List.{List, [], ◌∷◌, ◌++◌, append_assoc, append-nil}
-use Prim.Native.Nat.{ℕ, suc, ◌+◌, ◌-◌, ◌<◌, ◌≤◌}
-use native.Mathlib.Numerals.{add-one}
-use native.Mathlib.Omega.{arith}
-use lib.ListN.{length, get_or, take, drop, length-drop, drop_of_length-le}
-use lib.Seq.{drop-cons, drop-length, take-suc, get_or-drop}
-use borrow.Author.Tests.{eq-eqb, ne_eqb}
-use Rattle.vector_text.specs.Fields.{tab, before, fields, field_of}
-use Rattle.vector_text.specs.Places.{fields_behind, Ends, Starts}
+-- The fields of a line are its parts between tabs, and its form is that of each of them. Assumes nothing.
+use Rattle.std.proofs.Common.{◌≡◌, refl, ap, ℕ, suc, ◌+◌, Bool, true, false, eqb, ◌&&◌, List, [], ◌∷◌, length, arith, Bor, Option, Some, None, unwrap_or, option_map}
+use Rattle.std.specs.List.{slice_split, onto_first, list_all, zip}
+use Rattle.std.proofs.lemmas.List.Splits.{length-slice_split}
+use Rattle.vector_text.specs.Fields.{tab, before, fields, sort_of, is_of, formed}
 
--- nothing put before
-before_none : (fs : List (List ℕ)) → before [] fs ≡ fs
+-- a byte before the first of some parts
+before_first_part : (b : ℕ) (parts : List (List ℕ)) (n : ℕ) → length parts ≡ n + 1 → before (b ∷ []) parts ≡ onto_first b parts
 unfolding before
-before_none [] = refl
-before_none (f ∷ fs) = refl
+before_first_part b [] n h = absurd (omega arith)
+before_first_part b (part ∷ parts) n h = refl
 
--- one text before another
-before_both : (xs ys : List ℕ) (fs : List (List ℕ)) → before xs (before ys fs) ≡ before (xs ++ ys) fs
-unfolding before
-before_both xs ys [] = refl
-before_both xs ys (f ∷ fs) = ap (λ (l : List ℕ). l ∷ fs) (sym (append_assoc xs ys f))
-
--- a tab parts an empty field from the others
-fields_at_tab : (line : List ℕ) (i : ℕ) → i < length line → get_or line i 0 ≡ tab → fields (drop i line) ≡ [] ∷ fields (drop (suc i) line)
+-- the fields of a line are the parts that tabs leave
+pub fields_split : (line : List ℕ) → fields line ≡ slice_split (λ b. eqb b tab) line
 unfolding fields
-fields_at_tab line i h is = rw (drop-cons line i 0 h, eq-eqb (get_or line i 0) tab is)
+fields_split [] = refl
+fields_split (b ∷ line) =
+    let step = before_first_part b (slice_split (λ b. eqb b tab) line) _ (length-slice_split (λ b. eqb b tab) line) in
+    rw (fields_split line, step)
 
--- any other byte belongs to the first of the fields
-fields_at_byte : (line : List ℕ) (i : ℕ) → i < length line → (get_or line i 0 ≡ tab → ⊥)
-    → fields (drop i line) ≡ before (get_or line i 0 ∷ []) (fields (drop (suc i) line))
-unfolding fields
-fields_at_byte line i h other = rw (drop-cons line i 0 h, ne_eqb (get_or line i 0) tab other)
+-- a part that may be there, or another in its place
+pub part_now : (part : Option (Bor (List ℕ))) (other : Bor (List ℕ)) → (unwrap_or part other).now ≡ unwrap_or (option_map (λ x. x.now) part) other.now
+part_now None other = refl
+part_now (Some x) other = refl
 
--- from a start on, no tab was met before this place
-pub record Within (line : List ℕ) (start end : ℕ) : Type 0 where
-  pub behind : start ≤ end
-  pub inside : end ≤ length line
-  pub parts : fields (drop start line) ≡ before (take (end - start) (drop start line)) (fields (drop end line))
+-- a field and its letter fit
+abbrev pub fits_letter : List ℕ × ℕ → Bool
+fits_letter p = is_of (sort_of p.1) p.0
 
-pub within_begins : (line : List ℕ) (start : ℕ) → start ≤ length line → Within line start start
-within_begins line start h =
-    let none : start - start ≡ 0 = omega arith in
-    record { behind = omega arith; inside = h; parts = rw none (sym (before_none (fields (drop start line)))) }
+-- as many fields as letters: each is of its letter's sort
+pub formed_zip : (fs : List (List ℕ)) (letters : List ℕ) → length fs ≡ length letters → formed fs letters ≡ list_all fits_letter (zip fs letters)
+unfolding formed
+formed_zip [] [] h = refl
+formed_zip [] (l ∷ letters) h = absurd (omega arith)
+formed_zip (f ∷ fs) [] h = absurd (omega arith)
+formed_zip (f ∷ fs) (l ∷ letters) h = rw (formed_zip fs letters (omega arith))
 
-module _ {line : List ℕ} {start end : ℕ} (so : Within line start end) where
-  -- another byte than a tab
-  pub within_goes : end < length line → (get_or line end 0 ≡ tab → ⊥) → Within line start (end + 1)
-  within_goes h other =
-      let behind = so.behind in
-      let room : end - start < length (drop start line) = rw length-drop (omega arith) in
-      let more : end + 1 - start ≡ suc (end - start) = omega arith in
-      let place : start + (end - start) ≡ end = omega arith in
-      let here : get_or (drop start line) (end - start) 0 ≡ get_or line end 0 = get_or-drop start line (end - start) 0 ∙ ap (λ (k : ℕ). get_or line k 0) place in
-      let first = fields_at_byte line end h other in
-      record {
-        behind = omega arith;
-        inside = omega arith;
-        parts =
-            so.parts ∙ rw (more, take-suc (drop start line) (end - start) 0 room, here, add-one end, first)
-            (before_both (take (end - start) (drop start line)) (get_or line end 0 ∷ []) (fields (drop (suc end) line)));
-      }
-
-  -- a tab ends the field
-  pub ends_at_tab : end < length line → get_or line end 0 ≡ tab → Ends line start end
-  unfolding before fields_behind
-  ends_at_tab h is =
-      let first = fields_at_tab line end h is in
-      let more : end ≡ length line → ⊥ = λ e. omega arith in
-      record {
-        behind = so.behind;
-        inside = so.inside;
-        parts = so.parts ∙ rw (first, ne_eqb end (length line) more, append-nil);
-      }
-
-  -- so does the line's end
-  pub ends_at_end : length line ≤ end → Ends line start end
-  unfolding fields before fields_behind
-  ends_at_end h =
-      let inside = so.inside in
-      let last : end ≡ length line = omega arith in
-      record {
-        behind = so.behind;
-        inside = so.inside;
-        parts = so.parts ∙ rw (drop_of_length-le line h, eq-eqb end (length line) last, append-nil);
-      }
-
--- the last field of a line
-pub ends_last : {line : List ℕ} {start end : ℕ} → Ends line start end → end ≡ length line
-    → fields (drop start line) ≡ take (end - start) (drop start line) ∷ []
-unfolding fields_behind
-ends_last {line} {start} {end} e last = e.parts ∙ rw (eq-eqb end (length line) last)
-
--- any other field, and those behind it
-pub ends_more : {line : List ℕ} {start end : ℕ} → Ends line start end → (end ≡ length line → ⊥)
-    → fields (drop start line) ≡ take (end - start) (drop start line) ∷ fields (drop (end + 1) line)
-unfolding fields_behind
-ends_more {line} {start} {end} e more = e.parts ∙ rw (ne_eqb end (length line) more, add-one end)
-
--- so many fields on from a place stands the field of a number
-pub record Seeks (line : List ℕ) (number start left : ℕ) : Type 0 where
-  pub inside : start ≤ length line
-  pub is : get_or (fields (drop start line)) (left - 1) [] ≡ field_of line number
-
-pub seek_begins : (line : List ℕ) (number : ℕ) → Seeks line number 0 number
-unfolding field_of
-seek_begins line number = record { inside = omega arith; is = refl }
-
-module _ {line : List ℕ} {number start left end : ℕ} (so : Seeks line number start left) (wants : 1 < left) (e : Ends line start end) where
-  -- a field further
-  pub seek_goes : (end ≡ length line → ⊥) → Seeks line number (end + 1) (left - 1)
-  seek_goes more =
-      let inside = e.inside in
-      let next : left - 1 ≡ suc (left - 1 - 1) = omega arith in
-      record { inside = omega arith; is = rw (ends_more e more, next) at so.is }
-
-  -- the line has fewer
-  pub seek_fails : end ≡ length line → Starts line number end
-  unfolding fields
-  seek_fails last =
-      let next : left - 1 ≡ suc (left - 1 - 1) = omega arith in
-      record { inside = e.inside; is = rw (last, drop-length line) (rw (ends_last e last, next) at so.is) }
-
--- the place is found
-pub seek_ends : {line : List ℕ} {number start left : ℕ} → Seeks line number start left → left ≤ 1 → Starts line number start
-seek_ends {line} {number} {start} {left} so h =
-    let none : left - 1 ≡ 0 = omega arith in
-    record { inside = so.inside; is = rw none at so.is }
-
--- the field between its places
-pub field_between : {line : List ℕ} {number start end : ℕ} → Starts line number start → Ends line start end
-    → take (end - start) (drop start line) ≡ field_of line number
-field_between s e = rw e.parts at s.is
+-- more fields than letters, or fewer
+pub formed_other : (fs : List (List ℕ)) (letters : List ℕ) → (length fs ≡ length letters → ⊥) → false ≡ formed fs letters
+unfolding formed
+formed_other [] [] h = absurd (h refl)
+formed_other [] (l ∷ letters) h = refl
+formed_other (f ∷ fs) [] h = refl
+formed_other (f ∷ fs) (l ∷ letters) h = rw (← formed_other fs letters (λ e. h (ap suc e))) (both_false (is_of (sort_of l) f))
+  where
+    both_false : (t : Bool) → false ≡ t && false
+    both_false true = refl
+    both_false false = refl

@@ -22,15 +22,15 @@ unfoldable pub field_of : List ℕ → ℕ → List ℕ
 field_of line number = slice_index_or (fields line) (number - 1) []
 
 -- a number of so many hex digits at the most
-unfoldable pub is_number : ℕ → List ℕ → Bool
+abbrev pub is_number : ℕ → List ℕ → Bool
 is_number most text = nat_lt 0 (length text) && nat_le (length text) most && are_digits text
 
 -- a dash for no bytes
-unfoldable pub dash : List ℕ
+abbrev pub dash : List ℕ
 dash = ascii "-"
 
 -- a byte string: a dash, or two hex digits a byte
-unfoldable pub is_bytes : List ℕ → Bool
+abbrev pub is_bytes : List ℕ → Bool
 is_bytes text = equal text dash || (nat_lt 0 (length text) && length text % 2 == 0 && are_digits text)
 
 -- what a field may be
@@ -40,7 +40,7 @@ pub data Sort : Type 0 where
   bytes : Sort
 
 -- the sort that a letter stands for: r the word run, c the word check, h the word hex, n a number of 32 bits, w one of 64, b bytes, any other the dash
-unfoldable pub sort_of : ℕ → Sort
+abbrev pub sort_of : ℕ → Sort
 sort_of letter =
     if letter == 114 then word (ascii "run")
     else (if letter == 99 then word (ascii "check")
@@ -48,7 +48,7 @@ sort_of letter =
     else (if letter == 110 then number 8 else (if letter == 119 then number 16 else (if letter == 98 then bytes else word dash)))))
 
 -- a field is of a sort
-unfoldable pub is_of : Sort → List ℕ → Bool
+abbrev pub is_of : Sort → List ℕ → Bool
 is_of (word letters) text = equal text letters
 is_of (number most) text = is_number most text
 is_of bytes text = is_bytes text

@@ -1,25 +1,25 @@
 -- Capital hex digits: the number and the bytes that they stand for, and an area that holds such bytes. Assumes nothing.
-use Rattle.std.specs.Prelude.{Bool, true, false, ◌&&◌, ◌||◌, List, [], ◌∷◌, ℕ, zero, suc, ◌+◌, ◌-◌, ◌*◌, length, if◌then◌else◌, nat_le, ◌==◌}
+use Rattle.std.specs.Prelude.{Bool, true, ◌&&◌, ◌||◌, List, [], ◌∷◌, ℕ, zero, suc, ◌+◌, ◌-◌, ◌*◌, length, if◌then◌else◌, nat_le, bytes_eq}
 use Rattle.text.specs.Digits.{read_on}
 
 -- a digit from 0 to 9; 48 is `0`
-unfoldable pub is_figure : ℕ → Bool
+abbrev pub is_figure : ℕ → Bool
 is_figure b = nat_le 48 b && nat_le b 57
 
 -- a digit from A to F; 65 is `A`
-unfoldable pub is_letter : ℕ → Bool
+abbrev pub is_letter : ℕ → Bool
 is_letter b = nat_le 65 b && nat_le b 70
 
 -- a hex digit
-unfoldable pub is_digit : ℕ → Bool
+abbrev pub is_digit : ℕ → Bool
 is_digit b = is_figure b || is_letter b
 
 -- what a digit stands for; 0 for any other byte
-unfoldable pub digit_of : ℕ → ℕ
+abbrev pub digit_of : ℕ → ℕ
 digit_of b = if is_figure b then b - 48 else (if is_letter b then b - 55 else 0)
 
 -- nothing but hex digits
-unfoldable pub are_digits : List ℕ → Bool
+abbrev pub are_digits : List ℕ → Bool
 are_digits [] = true
 are_digits (b ∷ text) = is_digit b && are_digits text
 
@@ -40,12 +40,9 @@ padded (suc n) [] = 0 ∷ padded n []
 padded (suc n) (b ∷ bytes) = b ∷ padded n bytes
 
 -- the same bytes
-unfoldable pub equal : List ℕ → List ℕ → Bool
-equal [] [] = true
-equal [] (b ∷ ys) = false
-equal (a ∷ xs) [] = false
-equal (a ∷ xs) (b ∷ ys) = a == b && equal xs ys
+abbrev pub equal : List ℕ → List ℕ → Bool
+equal = bytes_eq
 
 -- an area holds all of some bytes, and zeros behind them
-unfoldable pub is_held : List ℕ → List ℕ → Bool
+abbrev pub is_held : List ℕ → List ℕ → Bool
 is_held area bytes = equal area (padded (length area) bytes) && nat_le (length bytes) (length area)

@@ -1,4 +1,3 @@
 -- The definitions of `vector_text`. Assumes nothing.
 pub mod Hex
 pub mod Fields
-pub mod Places

@@ -1,4 +1,4 @@
-// The text of test cases: lines of tab-parted fields, with numbers and bytes in capital hex.
+//! The text of test cases: lines of tab-parted fields, with numbers and bytes in capital hex.
 #![tactic(auto)]
 
 pub mod areas;

@@ -1,4 +1,4 @@
-// The vectors' program: standard input holds test cases, one a line; standard output names those that differ, and their count.
+//! The vectors' program: standard input holds test cases, one a line; standard output names those that differ, and their count.
 #![tactic(auto)]
 
 fn main(rt: HostRuntime) {

@@ -2,3 +2,4 @@
 pub mod Differences
 pub mod Widths
 pub mod LittleEndian
+pub mod Truths

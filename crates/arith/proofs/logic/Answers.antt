@@ -5,13 +5,8 @@ use Rattle.arith.proofs.logic.Goals as goal
 pub returns : goal.returns
 unfolding logic_flags
 returns c =
+    let low = rw c.from.ensures at c.low-r.ensures in
     record {
-      is = c.low-r.ensures.is;
-      means =
-          rw (
-            c.resulting_word.ensures,
-            c.undefined-af.ensures,
-            c.unpack.ensures,
-            c.low-r.ensures.is,
-          );
+      is = low.is;
+      means = rw (c.resulting_word.ensures, c.undefined-af.ensures, c.unpack.ensures, low.is);
     }

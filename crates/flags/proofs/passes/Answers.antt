@@ -1,13 +1,12 @@
 -- `flags::passes` meets its contract. Assumes nothing.
-use borrow.Author.Tests.{eq-eqb, ne_eqb}
-use Rattle.width.specs.Numbers.{bit_at}
+use mathlib.Core.Path.{sym, ◌∙◌}
 use Rattle.flags.specs.Word.{passes}
 use Rattle.flags.proofs.passes.Goals as goal
 
-pub returns-then-n-eq1 : goal.returns-then-n-eq1
-unfolding bit_at passes
-returns-then-n-eq1 c = rw (eq-eqb _ _ c.if-n-eq1.true)
+pub returns-then-bit_at : goal.returns-then-bit_at
+unfolding passes
+returns-then-bit_at c = rw (rw c.from.ensures at (sym c.bit_at.ensures ∙ c.if-bit_at.true))
 
-pub returns-else-n-eq1 : goal.returns-else-n-eq1
-unfolding bit_at passes
-returns-else-n-eq1 c = rw (ne_eqb _ _ c.if-n-eq1.false)
+pub returns-else-bit_at : goal.returns-else-bit_at
+unfolding passes
+returns-else-bit_at c = rw (rw c.from.ensures at (sym c.bit_at.ensures ∙ c.if-bit_at.false)) c.if-bit_at.false

@@ -5,4 +5,4 @@ use Rattle.product.proofs.div.Goals as goal
 pub returns : goal.returns
 unfolding unsigned_division
 returns c =
-    rw (← c.low.ensures.is, ← c.joined.ensures.is) c.divided_unsigned.ensures
+    rw (← c.taken.ensures.is, ← c.joined.ensures.is) c.divided_unsigned.ensures

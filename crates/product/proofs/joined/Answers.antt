@@ -17,13 +17,13 @@ overflow_add-result c =
     let twice = squares c.args.w
     in
     rw c.modulus.ensures
-    (record { fits = omega (arith, digits_lt c.low.ensures.below c.low-2.ensures.below) })
+    (record { fits = omega (arith, digits_lt c.taken.ensures.below c.taken-2.ensures.below) })
 
 pub returns : goal.returns
 unfolding joined
 returns c =
     rw c.modulus.ensures
     (record {
-      is = rw (← c.low-2.ensures.is, ← c.low.ensures.is);
-      below = digits_lt c.low.ensures.below c.low-2.ensures.below;
+      is = rw (← c.taken-2.ensures.is, ← c.taken.ensures.is);
+      below = digits_lt c.taken.ensures.below c.taken-2.ensures.below;
     })

@@ -5,8 +5,8 @@ use Rattle.product.specs.Multiply.{unsigned_product}
 use Rattle.width.proofs.Widths.{numbers}
 use Rattle.product.proofs.mul.Goals as goal
 
-pub overflow_mul-low : goal.overflow_mul-low
-overflow_mul-low c =
+pub overflow_mul-taken : goal.overflow_mul-taken
+overflow_mul-taken c =
     let nums = numbers c.args.w
     in
     record { fits = product_below _ _ (omega arith) (omega arith) }
@@ -14,4 +14,4 @@ overflow_mul-low c =
 pub returns : goal.returns
 unfolding unsigned_product
 returns c =
-    rw (← c.low-2.ensures.is, ← c.low.ensures.is) c.halves.ensures
+    rw (← c.taken-2.ensures.is, ← c.taken.ensures.is) c.halves.ensures

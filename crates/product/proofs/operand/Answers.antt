@@ -11,4 +11,4 @@ meaning-requires c =
 pub returns : goal.returns
 unfolding signed
 returns c =
-    rw (← c.low.ensures.is, ← c.half.ensures) c.meaning.ensures
+    rw (← c.taken.ensures.is, ← c.half.ensures, ← c.from.ensures) c.meaning.ensures

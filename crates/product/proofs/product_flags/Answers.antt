@@ -1,13 +1,8 @@
--- `product::product_flags` meets its contract: the undefined flags by the one policy. Assumes nothing.
+-- `product::product_flags` meets its contract. Assumes nothing.
+use Rattle.flags.specs.Results.{all_undefined}
 use Rattle.product.specs.Multiply.{product_flags}
 use Rattle.product.proofs.product_flags.Goals as goal
 
 pub returns : goal.returns
-unfolding product_flags
-returns c =
-    simp (
-      c.undefined-4.ensures,
-      c.undefined-3.ensures,
-      c.undefined-2.ensures,
-      c.undefined.ensures,
-    )
+unfolding product_flags all_undefined
+returns c = rw c.all_undefined.ensures

@@ -1,14 +1,13 @@
--- What holds in the loops of `run::steps`.
-use Prim.Native.Nat.{◌-◌}
-use Rattle.effect.specs.Changes.{lent}
-use Rattle.run.proofs.Going.{Going}
-use Rattle.run.proofs.Sites.{Keeping}
+-- What holds in the loop of `steps`: what is left to do gives the whole run's end. Assumes nothing.
+use Rattle.std.proofs.Common.{◌≡◌, ◌-◌}
 use Rattle.run.specs.Steps.{fixed_to}
+use Rattle.run.specs.Runs.{run_from}
+use Rattle.run.specs.Sites.{Keeps}
 use Rattle.run.proofs.steps.Given as goal
 
 abbrev pub invariant-loop-n : goal.invariant-loop-n
 invariant-loop-n l =
-    Going (fixed_to l.code l.constants) l.initial.area l.budget (lent l.initial.regs l.initial.xmm l.initial.eip l.initial.word) l.area (lent l.regs l.xmm l.eip l.word) l.n × Keeping l.code l.kept
-
-abbrev pub decreases-loop-n : goal.decreases-loop-n
-decreases-loop-n l = l.budget - l.n
+    (run_from (fixed_to l.code l.fn.memory.constants.now) l.budget l.fn.m l.fn.memory.area.now 0 ≡ run_from (fixed_to l.code l.fn.memory.constants.now) (l.budget - l.n) l.m l.memory.area.now l.n)
+    × (l.memory.constants.now ≡ l.fn.memory.constants.now)
+    × (l.memory.area.ghost_name ≡ l.fn.memory.area.ghost_name)
+    × Keeps l.code l.kept

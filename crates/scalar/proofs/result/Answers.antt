@@ -1,14 +1,15 @@
--- `scalar::result` meets its contract: what differs from itself is no number. Assumes nothing.
-use Rattle.scalar.proofs.Numbers.{differs, same, numbered}
+-- `scalar::result` meets its contract. Assumes nothing.
+use mathlib.Core.Path.{sym, ◌∙◌}
+use Rattle.scalar.proofs.Numbers.{numbered}
 use Rattle.scalar.specs.Singles.{result_of}
 use Rattle.scalar.proofs.result.Goals as goal
 
-pub returns-then-x : goal.returns-then-x
+pub returns-then-is_nan : goal.returns-then-is_nan
 unfolding result_of
-returns-then-x c = rw (differs _ c.if-x.true)
+returns-then-is_nan c = rw (← c.is_nan.ensures.value, c.if-is_nan.true)
 
 pub float_to_bits-result : goal.float_to_bits-result
-float_to_bits-result c = rw (same c.args.x c.if-x.false) tt
+float_to_bits-result c = rw (sym c.is_nan.ensures.value ∙ c.if-is_nan.false) tt
 
-pub returns : goal.returns
-returns c = let x = c.args.x in numbered x (same x c.if-x.false)
+pub returns-else-is_nan : goal.returns-else-is_nan
+returns-else-is_nan c = numbered c.args.x (sym c.is_nan.ensures.value ∙ c.if-is_nan.false)

@@ -12,4 +12,4 @@ returns-then-k-eq0 c =
 pub returns-else-k-eq0 : goal.returns-else-k-eq0
 unfolding shift_flags masked
 returns-else-k-eq0 c =
-    rw (ne_eqb _ _ c.if-k-eq0.false, ← c.low.ensures.is) c.flags_after.ensures
+    rw (ne_eqb _ _ c.if-k-eq0.false) (rw (c.new.ensures.same_size, c.new.ensures.lowest) at c.flags_after.ensures)

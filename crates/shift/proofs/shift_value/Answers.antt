@@ -5,4 +5,4 @@ use Rattle.shift.proofs.shift_value.Goals as goal
 pub returns : goal.returns
 unfolding shift_value masked
 returns c =
-    rw (← c.low.ensures.is) c.shifted.ensures
+    rw (c.new.ensures.same_size, c.new.ensures.lowest) at c.shifted.ensures

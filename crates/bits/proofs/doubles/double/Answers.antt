@@ -13,9 +13,9 @@ pub overflow_add-result : goal.overflow_add-result
 overflow_add-result c =
     let a = c.args
     in
-    rw (c.bits.ensures, above a.w a.high (search rules))
+    rw (c.bits.ensures, c.from.ensures, c.from-2.ensures, above a.w a.high (search rules))
     (record { fits = double_fits a.w a.high a.low (search rules) c.requires })
 
 pub returns : goal.returns
 returns c =
-    let a = c.args in rw (c.bits.ensures, above a.w a.high (search rules))
+    let a = c.args in rw (c.bits.ensures, c.from.ensures, c.from-2.ensures, above a.w a.high (search rules))

@@ -16,8 +16,8 @@ returns-then-k-bits c =
       ne_eqb _ _ c.if-k-eq0.false,
       ← c.bits.ensures,
       le-leb _ _ c.if-k-bits.true,
-      ← c.low-then-k-bits.ensures.is,
-      ← c.low.ensures.is,
+      ← (rw c.from-then-k-bits.ensures at c.low-then-k-bits.ensures.is),
+      ← (rw c.from.ensures at c.low.ensures.is),
       c.flags_after.ensures,
     )
 

@@ -10,12 +10,12 @@ returns-then-k-bits c =
     rw (
       ← c.bits.ensures,
       le-leb _ _ c.if-k-bits.true,
-      ← c.low.ensures.is,
-      ← c.low-own.ensures.is,
+      ← (rw c.from-then-k-bits.ensures at c.low.ensures.is),
+      ← (rw c.from.ensures at c.low-own.ensures.is),
     )
     c.double_moved.ensures
 
 pub returns-else-k-bits : goal.returns-else-k-bits
 unfolding double_value masked
 returns-else-k-bits c =
-    rw (← c.bits.ensures, lt-leb _ _ c.if-k-bits.false) c.low-own.ensures
+    rw (← c.bits.ensures, lt-leb _ _ c.if-k-bits.false) (rw c.from.ensures at c.low-own.ensures)

@@ -6,4 +6,4 @@ use Rattle.bits.proofs.scans.scan_flags.Goals as goal
 pub returns : goal.returns
 unfolding all_undefined scan_flags
 returns c =
-    rw c.all_undefined-f.ensures
+    rw c.all_undefined.ensures

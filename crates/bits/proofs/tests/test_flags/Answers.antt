@@ -12,4 +12,4 @@ bit_at-requires c =
 pub returns : goal.returns
 unfolding all_undefined selected test_flags
 returns c =
-    rw (c.bit_at.ensures, c.of_bits.ensures.is, c.all_undefined-f.ensures)
+    rw (c.bit_at.ensures, c.from.ensures, c.of_bits.ensures.is, c.all_undefined.ensures)

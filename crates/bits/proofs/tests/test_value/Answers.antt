@@ -19,5 +19,6 @@ returns c =
       c.with_bit.ensures,
       c.bit_after.ensures,
       c.bit_at.ensures,
+      c.from.ensures,
       c.of_bits-k.ensures.is,
     )

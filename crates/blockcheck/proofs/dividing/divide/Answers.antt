@@ -2,17 +2,20 @@
 use mathlib.Core.Path.{◌≡◌, ap, sym, ◌∙◌}
 use native.Mathlib.Omega.{arith}
 use lib.ListN.{length, length-replicate}
-use Rattle.blockcheck.proofs.Extents.{begins, goes, ends, cuts, stops}
+use borrow.Author.Rules.{rules}
+use Rattle.std.proofs.lemmas.Result.{err_from_is_err_and}
+use Rattle.blockcheck.proofs.Extents.{was_ok, was_fault, begins, goes, ends, fails}
 use Rattle.blockcheck.proofs.Levels.{coded_long}
 use Rattle.grammar.proofs.Answered.{found_standing}
 use Rattle.grammar.specs.Decoding.{decode_of}
-use Rattle.grammar.specs.declared.instruction.Found.{Found}
+use Rattle.std.specs.Prelude.{Ok}
 use Rattle.blockcheck.proofs.dividing.divide.Goals as goal
 
 -- the instruction that decode found
 found : (c : goal.After-struct_known-1)
-    → decode_of c.args.code.now c.loop-at.at ≡ Found.Instruction c.in-Instruction.d
-found c = sym c.read.ensures.is ∙ c.in-Instruction.is
+    → decode_of c.args.code.now c.loop-at.at ≡ Ok c.in_ok-d.d
+found c =
+    sym c.read.ensures.is ∙ was_ok _ c.in_ok-d.d c.read.result c.in_ok-d.ensures.cases (λ fault p. p)
 
 pub loop-at-init : goal.loop-at-init
 loop-at-init c = rw c.requires (begins c.args.code.now)
@@ -25,7 +28,7 @@ bounds-marks-at c =
 pub loop-at-preserved : goal.loop-at-preserved
 loop-at-preserved c =
     rw c.mark_of.ensures
-    (goes c.in-Instruction.d c.loop-at.invariant (found c))
+    (goes c.in_ok-d.d c.loop-at.invariant (found c))
 
 pub overflow_add-at : goal.overflow_add-at
 overflow_add-at c = omega (arith, (loop-at-preserved c).inside)
@@ -36,17 +39,11 @@ overflow_add-count c = omega (arith, c.loop-at.invariant.few)
 pub loop-at-smaller : goal.loop-at-smaller
 loop-at-smaller c = omega (arith, (loop-at-preserved c).inside, (found_standing _ _ _ (found c)).some)
 
-pub shape_of-marks-in-Cut : goal.shape_of-marks-in-Cut
-shape_of-marks-in-Cut c = coded_long c.loop-at.invariant.coded ∙ sym (ap length c.requires ∙ length-replicate _ _)
-
-pub returns-in-Cut : goal.returns-in-Cut
-returns-in-Cut c = cuts c.loop-at.invariant c.loop-at-test.true (sym c.read.ensures.is ∙ c.in-Cut.is)
-
-pub shape_of-marks-in-Unknown : goal.shape_of-marks-in-Unknown
-shape_of-marks-in-Unknown c = coded_long c.loop-at.invariant.coded ∙ sym (ap length c.requires ∙ length-replicate _ _)
-
-pub returns-in-Unknown : goal.returns-in-Unknown
-returns-in-Unknown c = stops c.loop-at.invariant (sym c.read.ensures.is ∙ c.in-Unknown.is)
+pub returns-in_err-d : goal.returns-in_err-d
+returns-in_err-d c =
+    let p = err_from_is_err_and c.from_residual.result c.from_residual.ensures.1 in
+    rw (p.1, p.2)
+    (let (fault, e, q) = was_fault _ c.in_err-d.field-0.0 c.read.result c.in_err-d.ensures.cases c.loop-at.at (λ fault p. search rules) in rw q (fails fault c.loop-at.invariant c.loop-at-test.true (sym c.read.ensures.is ∙ e)))
 
 pub shape_of-marks : goal.shape_of-marks
 shape_of-marks c = coded_long c.loop-at.invariant.coded ∙ sym (ap length c.requires ∙ length-replicate _ _)

@@ -3,10 +3,10 @@ use mathlib.Core.Path.{sym, ◌∙◌}
 use Rattle.blockcheck.specs.Passes.{mark_of}
 use Rattle.blockcheck.proofs.dividing.mark_of.Goals as goal
 
-pub returns-in-Absent : goal.returns-in-Absent
+pub returns-in-None : goal.returns-in-None
 unfolding mark_of
-returns-in-Absent c = rw (sym c.relative_of.ensures ∙ c.in-Absent.is)
+returns-in-None c = rw (sym c.relative_of.ensures ∙ c.in-None.is)
 
-pub returns-in-By : goal.returns-in-By
+pub returns-in-Some : goal.returns-in-Some
 unfolding mark_of
-returns-in-By c = rw (sym c.relative_of.ensures ∙ c.in-By.is)
+returns-in-Some c = rw (sym c.relative_of.ensures ∙ c.in-Some.is)

@@ -5,10 +5,10 @@ use Rattle.blockcheck.specs.Blocks.{no_displacement}
 use Rattle.blockcheck.specs.Passes.{holds}
 use Rattle.blockcheck.proofs.landing.arrives.Goals as goal
 
-pub returns-in-Absent : goal.returns-in-Absent
-returns-in-Absent c starts shows = rw (sym c.relative_of.ensures ∙ c.in-Absent.is) (holds no_displacement)
+pub returns-in-None : goal.returns-in-None
+returns-in-None c starts shows = rw (sym c.relative_of.ensures ∙ c.in-None.is) (holds no_displacement)
 
-pub returns-in-By : goal.returns-in-By
-returns-in-By c starts shows =
-    rw (sym c.relative_of.ensures ∙ c.in-By.is)
+pub returns-in-Some : goal.returns-in-Some
+returns-in-Some c starts shows =
+    rw (sym c.relative_of.ensures ∙ c.in-Some.is)
     (arrives_as (rw c.leads_to.ensures at (c.lands.ensures starts shows)))

@@ -11,11 +11,11 @@ looks_well-requires c = omega (arith, as_long c.loop-at.invariant)
 
 pub returns-then-not-looks_well : goal.returns-then-not-looks_well
 returns-then-not-looks_well c =
-    stops c.loop-at.invariant c.loop-at-test.true (rw c.if-not-looks_well.true at c.looks_well.ensures)
+    stops c.loop-at.invariant (rw c.if-not-looks_well.true at c.looks_well.ensures)
 
 pub loop-at-preserved : goal.loop-at-preserved
 loop-at-preserved c =
-    goes c.loop-at.invariant c.loop-at-test.true (rw c.if-not-looks_well.false at c.looks_well.ensures)
+    goes c.loop-at.invariant (omega arith) (rw c.if-not-looks_well.false at c.looks_well.ensures)
 
 pub returns : goal.returns
-returns c = ends c.loop-at.invariant c.loop-at-test.false
+returns c = ends c.loop-at.invariant (omega arith)

@@ -5,4 +5,4 @@ use Rattle.blockcheck.proofs.landing.leads_to.Goals as goal
 
 pub returns : goal.returns
 unfolding target_of code_base
-returns c = refl
+returns c = rw c.from.ensures refl

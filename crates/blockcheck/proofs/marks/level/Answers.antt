@@ -1,32 +1,15 @@
--- `blockcheck::marks::level` meets its contract: the marks before `i` are levelled. Assumes nothing.
-use mathlib.Core.Path.{◌≡◌, refl, ap, ◌∙◌}
-use native.Mathlib.Numerals.{add-one}
-use native.Mathlib.Omega.{arith}
-use lib.ListN.{length, length-set}
-use Rattle.blockcheck.proofs.Levels.{levelled_to, levelling_long, levelling_more, levelling_all}
+-- `blockcheck::marks::level` meets its contract: the marks so far are levelled. Assumes nothing.
+use Rattle.std.proofs.Common.{◌<◌, length, get_or, arith}
+use Rattle.std.proofs.lemmas.List.Edits.{map_over_more}
+use Rattle.std.proofs.lemmas.List.{get_or_default}
+use Rattle.blockcheck.specs.Passes.{level_of}
 use Rattle.blockcheck.proofs.marks.level.Goals as goal
 
-pub loop-i-init : goal.loop-i-init
-unfolding levelled_to
-loop-i-init c = (omega arith, refl)
-
-pub loop-i-smaller : goal.loop-i-smaller
-loop-i-smaller c = simp length-set (omega arith)
-
-pub loop-i-preserved : goal.loop-i-preserved
-loop-i-preserved c =
-    let l = c.loop-i in
-    let old = c.args.marks.now in
-    let long : length l.marks ≡ length old = ap length l.invariant.1 ∙ levelling_long l.i old in
-    (omega arith, rw (c.level_of.ensures, l.invariant.1, levelling_more, add-one))
-
-pub shape_of-marks : goal.shape_of-marks
-shape_of-marks c =
-    let l = c.loop-i in ap length l.invariant.1 ∙ levelling_long l.i c.args.marks.now
-
-pub returns : goal.returns
-returns c =
-    let l = c.loop-i in
-    let old = c.args.marks.now in
-    let long : length l.marks ≡ length old = ap length l.invariant.1 ∙ levelling_long l.i old in
-    l.invariant.1 ∙ levelling_all l.i old (omega arith)
+pub loop-mark-preserved : goal.loop-mark-preserved
+loop-mark-preserved c =
+    let i = c.loop-mark.mark-index in
+    let ys = c.loop-mark.marks in
+    let x = get_or ys i 0 in
+    let within : i < length ys = omega arith in
+    let inside : i < length c.args.marks.now = omega arith in
+    rw c.level_of.ensures (map_over_more level_of c.args.marks.now ys i x inside c.loop-mark.invariant (get_or_default ys i 0 x within))

@@ -5,7 +5,7 @@ use mathlib.Core.List.{[], ◌∷◌}
 use Prim.Native.Nat.{◌/◌}
 use borrow.Author.Rules.{rules}
 use Rattle.grammar.specs.Grammar.{bare_length}
-use Rattle.grammar.proofs.Below.{default}
+use Rattle.std.proofs.lemmas.List.{get_or_past}
 use Rattle.grammar.proofs.parts.displacement_length.Goals as goal
 
 pub returns-in-0 : goal.returns-in-0
@@ -18,4 +18,6 @@ pub returns-in-2 : goal.returns-in-2
 returns-in-2 c = rw c.in-2.is
 
 pub returns-in_default : goal.returns-in_default
-returns-in_default c = let a = c.args in sym (default (bare_length a.m a.sib ∷ 1 ∷ 4 ∷ []) 0 (a.m / 64) (search rules))
+returns-in_default c =
+    let a = c.args in
+    sym (get_or_past (bare_length a.m a.sib ∷ 1 ∷ 4 ∷ []) (a.m / 64) 0 (search rules))

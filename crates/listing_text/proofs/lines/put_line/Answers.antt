@@ -1,12 +1,8 @@
--- `listing_text::lines::put_line` meets its contract: the fields and the newline, one after another. Assumes nothing.
+-- The fields and the newline, one after another.
 use Rattle.listing_text.specs.Listing.{line_of}
-use Rattle.text.proofs.Writing.{wrote_both}
+use Rattle.text.proofs.Writing.{adds_both}
 use Rattle.listing_text.proofs.lines.put_line.Goals as goal
 
 pub returns : goal.returns
 unfolding line_of
-returns c =
-    let past_offset = c.put_field-past_offset in
-    let past_length = c.put_field-past_size in
-    let past_opcode = c.put_opcode-past_opcode in
-    wrote_both (wrote_both (wrote_both past_offset.ensures past_length.ensures) past_opcode.ensures) c.put_byte.ensures
+returns c = adds_both (adds_both (adds_both c.field.ensures c.field-2.ensures) c.put_opcode.ensures) c.byte.ensures

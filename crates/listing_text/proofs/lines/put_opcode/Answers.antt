@@ -1,4 +1,4 @@
--- `listing_text::lines::put_opcode` meets its contract: two digits below 100h, and four from there on. Assumes nothing.
+-- Two digits below 100h, and four from there on.
 use borrow.Author.Tests.{lt-ltb, le-ltb}
 use Rattle.grammar.specs.Choice.{pick}
 use Rattle.listing_text.specs.Listing.{opcode_text}
@@ -6,8 +6,8 @@ use Rattle.listing_text.proofs.lines.put_opcode.Goals as goal
 
 pub returns-then-k-lt256 : goal.returns-then-k-lt256
 unfolding opcode_text pick
-returns-then-k-lt256 c = rw (lt-ltb _ _ c.if-k-lt256.true) c.put_hex.ensures
+returns-then-k-lt256 c = rw (lt-ltb _ _ c.if-k-lt256.true) c.hex.ensures
 
-pub returns : goal.returns
+pub returns-else-k-lt256 : goal.returns-else-k-lt256
 unfolding opcode_text pick
-returns c = rw (le-ltb _ _ c.if-k-lt256.false) c.put_hex-2.ensures
+returns-else-k-lt256 c = rw (le-ltb _ _ c.if-k-lt256.false) c.hex-else-k-lt256.ensures

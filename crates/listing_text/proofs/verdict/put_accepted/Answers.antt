@@ -1,9 +1,9 @@
--- `listing_text::verdict::put_accepted` meets its contract: the lines, the word and the count, one after another. Assumes nothing.
+-- The lines, the word and the count, one after another.
 use Rattle.listing_text.specs.Listing.{accepted_word}
-use Rattle.text.proofs.Writing.{wrote_both}
+use Rattle.text.proofs.Writing.{adds_both}
 use Rattle.text.specs.Ascii.{ascii}
 use Rattle.listing_text.proofs.verdict.put_accepted.Goals as goal
 
 pub returns : goal.returns
 unfolding accepted_word ascii
-returns c = wrote_both (wrote_both c.put_lines-past_lines.ensures c.put_bytes-past_word.ensures) c.put_field.ensures
+returns c = adds_both (adds_both c.put_lines.ensures c.bytes.ensures) c.field.ensures

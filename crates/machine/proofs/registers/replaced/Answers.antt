@@ -1,17 +1,14 @@
--- `registers::replaced` meets its contract: a size an arm. Assumes nothing.
-use borrow.Author.Rules.{rules}
+-- A byte of a register replaced: the low one, or the next. Assumes nothing.
+use Rattle.std.proofs.Common.{◌≡◌, ◌/◌, ◌%◌, arith, rules}
 use Rattle.width.specs.Sizes.{bits}
 use Rattle.machine.specs.Registers.{lowest}
-use Rattle.machine.proofs.Parts.{low_word, whole}
+use Rattle.machine.proofs.Parts.{low_byte, high_byte}
 use Rattle.machine.proofs.registers.replaced.Goals as goal
 
-pub returns-in-Byte : goal.returns-in-Byte
-returns-in-Byte c = rw c.in-Byte.is c.with_byte.ensures
-
-pub returns-in-Word : goal.returns-in-Word
+pub returns-then-i-eq0 : goal.returns-then-i-eq0
 unfolding lowest bits
-returns-in-Word c = rw c.in-Word.is (low_word _ _ (search rules))
+returns-then-i-eq0 c = rw (c.in-Byte.is, c.if-i-eq0.true) (low_byte _ _ (search rules))
 
-pub returns-in-Dword : goal.returns-in-Dword
+pub returns-else-i-eq0 : goal.returns-else-i-eq0
 unfolding lowest bits
-returns-in-Dword c = rw c.in-Dword.is (whole _ _ (search rules))
+returns-else-i-eq0 c = let odd : c.args.i / 4 % 2 ≡ 1 = omega arith in rw (c.in-Byte.is, odd) (high_byte _ _ (search rules))

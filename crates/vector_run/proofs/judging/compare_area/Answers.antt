@@ -6,5 +6,5 @@ use Rattle.vector_run.proofs.judging.compare_area.Goals as goal
 pub returns-then-holds : goal.returns-then-holds
 returns-then-holds c = sym (area_same _ 31 _ c.field.ensures (sym c.holds.ensures ∙ c.if-holds.true))
 
-pub returns : goal.returns
-returns c = sym (area_other _ 31 _ c.field.ensures (sym c.holds.ensures ∙ c.if-holds.false))
+pub returns-else-holds : goal.returns-else-holds
+returns-else-holds c = sym (area_other _ 31 _ c.field.ensures (sym c.holds.ensures ∙ c.if-holds.false))

@@ -1,10 +1,6 @@
--- What holds in the loops of `vector_run::judging::compare_numbers`.
-use Rattle.std.proofs.Common.{◌-◌, ◌≤◌, length}
+-- `vector_run::judging::compare_numbers` meets its contract: the numbers still to come decide. Assumes nothing.
 use Rattle.vector_run.proofs.Comparing.{Comparing}
 use Rattle.vector_run.proofs.judging.compare_numbers.Given as goal
 
 abbrev pub invariant-loop-i : goal.invariant-loop-i
-invariant-loop-i l = (l.i ≤ length l.told) × Comparing l.line l.told l.first l.i
-
-abbrev pub decreases-loop-i : goal.decreases-loop-i
-decreases-loop-i l = length l.told - l.i
+invariant-loop-i l = Comparing l.line l.told l.first l.i

@@ -12,14 +12,16 @@ returns-then-has_form c = of_run (sym c.has_form.ensures ∙ c.if-has_form.true)
 pub returns-then-has_form-2 : goal.returns-then-has_form-2
 unfolding is_run is_check ascii
 returns-then-has_form-2 c =
-    of_check (sym c.has_form.ensures ∙ c.if-has_form.false) (sym c.has_form-2.ensures ∙ c.if-has_form-2.true) c.judge_sized-then-has_form-2.ensures
+    of_check (sym c.has_form.ensures ∙ c.if-has_form.false) (sym c.has_form-else-has_form.ensures ∙ c.if-has_form-2.true) c.judge_sized-then-has_form-2.ensures
 
 pub returns-then-has_form-3 : goal.returns-then-has_form-3
 unfolding is_run is_check is_hex ascii
 returns-then-has_form-3 c =
-    of_hex (sym c.has_form.ensures ∙ c.if-has_form.false) (sym c.has_form-2.ensures ∙ c.if-has_form-2.false) (sym c.has_form-3.ensures ∙ c.if-has_form-3.true) c.judge_sized-then-has_form-3.ensures
+    of_hex (sym c.has_form.ensures ∙ c.if-has_form.false) (sym c.has_form-else-has_form.ensures ∙ c.if-has_form-2.false)
+    (sym c.has_form-else-has_form-2.ensures ∙ c.if-has_form-3.true) c.judge_sized-then-has_form-3.ensures
 
-pub returns : goal.returns
+pub returns-else-has_form-3 : goal.returns-else-has_form-3
 unfolding is_run is_check is_hex ascii
-returns c =
-    of_none (sym c.has_form.ensures ∙ c.if-has_form.false) (sym c.has_form-2.ensures ∙ c.if-has_form-2.false) (sym c.has_form-3.ensures ∙ c.if-has_form-3.false)
+returns-else-has_form-3 c =
+    of_none (sym c.has_form.ensures ∙ c.if-has_form.false) (sym c.has_form-else-has_form.ensures ∙ c.if-has_form-2.false)
+    (sym c.has_form-else-has_form-2.ensures ∙ c.if-has_form-3.false)

@@ -4,5 +4,5 @@ use Rattle.vector_run.proofs.judging.judge_lent.Goals as goal
 
 pub returns : goal.returns
 returns c =
-    lent_found _ _ _ _ c.field.ensures c.fill.ensures c.state_before-state.ensures c.number_64.ensures c.sangolid_run-number.ensures c.results.ensures
+    lent_found _ _ _ _ c.field.ensures c.fill.ensures c.state_before-state.ensures c.number_64.ensures c.sangolid_run-number.ensures
     c.compare_run.ensures

@@ -1,45 +1,19 @@
 -- `vector_run::judging::judge_sized` meets its contract: both areas fit their rooms. Assumes nothing.
-use Rattle.std.proofs.Common.{rules}
-use Rattle.std.proofs.Common.{sym, ◌∙◌, length-take-le, rules}
-use Rattle.vector_run.specs.Findings.{no_code, no_area}
-use Rattle.vector_run.proofs.Found.{fits_room, sized_found}
+use Rattle.std.proofs.lemmas.Result.{err_from_is_err_and}
+use Rattle.vector_run.proofs.Found.{sized_no_code, sized_no_area, sized_found}
 use Rattle.vector_run.proofs.judging.judge_sized.Goals as goal
 
-pub returns-then-not-area_fits : goal.returns-then-not-area_fits
-returns-then-not-area_fits c = no_code (sym c.area_fits.ensures ∙ c.if-not-area_fits.true)
+pub returns-in_err-code_size : goal.returns-in_err-code_size
+returns-in_err-code_size c =
+    let exit = err_from_is_err_and c.from_residual.result c.from_residual.ensures.1 in
+    sized_no_code _ c.in_err-code_size.ensures.unfit.0 (rw (exit.1, exit.2, c.in_err-code_size.ensures.unfit.1))
 
-pub returns-then-not-area_fits-2 : goal.returns-then-not-area_fits-2
-returns-then-not-area_fits-2 c = no_area (sym c.area_fits-2.ensures ∙ c.if-not-area_fits-2.true)
-
-pub slice_bounds-code-end : goal.slice_bounds-code-end
-slice_bounds-code-end c =
-    let is = c.number_64-code_size.ensures in
-    let fits = fits_room _ 13 (sym c.area_fits.ensures ∙ c.if-not-area_fits.false) in
-    let long = c.room-code.ensures in
-    search rules
-
-pub slice_bounds-judge_filled-end : goal.slice_bounds-judge_filled-end
-slice_bounds-judge_filled-end c =
-    let is = c.number_64-code_size.ensures in
-    let fits = fits_room _ 13 (sym c.area_fits.ensures ∙ c.if-not-area_fits.false) in
-    let long = c.room-code.ensures in
-    sym (length-take-le _ _ (search rules))
-
-pub slice_bounds-area-end : goal.slice_bounds-area-end
-slice_bounds-area-end c =
-    let is = c.number_64-area_size.ensures in
-    let fits = fits_room _ 15 (sym c.area_fits-2.ensures ∙ c.if-not-area_fits-2.false) in
-    let long = c.room-area.ensures in
-    search rules
-
-pub slice_bounds-judge_filled-end-2 : goal.slice_bounds-judge_filled-end-2
-slice_bounds-judge_filled-end-2 c =
-    let is = c.number_64-area_size.ensures in
-    let fits = fits_room _ 15 (sym c.area_fits-2.ensures ∙ c.if-not-area_fits-2.false) in
-    let long = c.room-area.ensures in
-    sym (length-take-le _ _ (search rules))
+pub returns-in_err-area_size : goal.returns-in_err-area_size
+returns-in_err-area_size c =
+    let exit = err_from_is_err_and c.from_residual-in_err-area_size.result c.from_residual-in_err-area_size.ensures.1 in
+    sized_no_area _ c.in_err-area_size.ensures.unfit.0 (rw (exit.1, exit.2, c.in_err-area_size.ensures.unfit.1))
 
 pub returns : goal.returns
 returns c =
-    sized_found _ _ (sym c.area_fits.ensures ∙ c.if-not-area_fits.false) (sym c.area_fits-2.ensures ∙ c.if-not-area_fits-2.false)
-    c.number_64-code_size.ensures c.number_64-area_size.ensures c.room-code.ensures c.room-area.ensures c.judge_filled.ensures
+    sized_found _ c.room-code.result c.room-area.result c.in_ok-code_size.ensures.fits c.in_ok-area_size.ensures.fits c.room-code.ensures c.room-area.ensures
+    c.judge_filled.ensures

@@ -1,5 +1,5 @@
 -- `vector_run::reading::take_line` meets its contract: too long, the header, or a case. Assumes nothing.
-use mathlib.Core.Path.{sym, ◌∙◌}
+use Rattle.std.proofs.Common.{sym, ◌∙◌}
 use Rattle.vector_run.specs.Lines.{the_header}
 use Rattle.vector_run.proofs.Taking.{counts_long, counts_case}
 use Rattle.vector_run.proofs.reading.take_line.Goals as goal

@@ -1,18 +1,9 @@
--- `vector_text::hex::all_digits` meets its contract: the digits still to come decide. Assumes nothing.
-use mathlib.Core.Path.{sym, ◌∙◌}
-use borrow.Author.Rules.{rules}
-use Rattle.vector_text.proofs.Digits.{digits_go, digits_stop, digits_end}
+-- `vector_text::hex::all_digits` meets its contract: each byte is tested. Assumes nothing.
+use Rattle.std.proofs.Common.{rules, tests}
+use Rattle.std.proofs.lemmas.Iterator.{YieldsList-from_slice}
+use Rattle.std.proofs.lemmas.Iterator.Search.{all_from_yields_List}
+use Rattle.vector_text.specs.Hex.{is_digit}
 use Rattle.vector_text.proofs.hex.all_digits.Goals as goal
 
-pub returns-then-not-is_digit : goal.returns-then-not-is_digit
-returns-then-not-is_digit c =
-    let loop = c.loop-i in
-    sym (loop.invariant.1 ∙ digits_stop _ loop.i c.loop-i-test.true (sym c.is_digit.ensures ∙ c.if-not-is_digit.true))
-
-pub loop-i-preserved : goal.loop-i-preserved
-loop-i-preserved c =
-    let loop = c.loop-i in
-    (search rules, loop.invariant.1 ∙ digits_go _ loop.i c.loop-i-test.true (sym c.is_digit.ensures ∙ c.if-not-is_digit.false))
-
 pub returns : goal.returns
-returns c = sym (c.loop-i.invariant.1 ∙ digits_end _ c.loop-i.i c.loop-i-test.false)
+returns c = all_from_yields_List is_digit _ _ _ c.all.ensures.ran (YieldsList-from_slice c.args.text.now cc) (λ x b q k. search (rules, tests))

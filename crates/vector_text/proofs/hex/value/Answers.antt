@@ -1,22 +1,12 @@
--- `vector_text::hex::value` meets its contract: the digits still to come give the whole number. Assumes nothing.
-use mathlib.Core.Path.{refl, sym, ◌∙◌}
-use native.Mathlib.Omega.{arith}
-use borrow.Author.Rules.{rules}
-use Rattle.vector_text.specs.Hex.{value_of}
-use Rattle.vector_text.proofs.Digits.{value_goes, value_ends}
+-- `vector_text::hex::value` meets its contract: the digits so far give their number. Assumes nothing.
+use Rattle.std.proofs.Common.{arith}
+use Rattle.vector_text.proofs.Digits.{value_none, value_more}
 use Rattle.vector_text.proofs.hex.value.Goals as goal
 
-pub loop-i-init : goal.loop-i-init
-unfolding value_of
-loop-i-init c = (search rules, search rules, refl)
+pub loop-b-init : goal.loop-b-init
+loop-b-init c = value_none
 
-pub loop-i-preserved : goal.loop-i-preserved
-loop-i-preserved c =
-    let loop = c.loop-i in
-    let small = c.digit.ensures.1 in
-    (search rules, omega arith, rw c.digit.ensures.0 (sym (value_goes _ loop.sum loop.i c.loop-i-test.true) ∙ loop.invariant.2))
-
-pub returns : goal.returns
-returns c =
-    let loop = c.loop-i in
-    sym (value_ends _ loop.sum loop.i c.loop-i-test.false loop.invariant.1) ∙ loop.invariant.2
+pub loop-b-preserved : goal.loop-b-preserved
+loop-b-preserved c =
+    rw (c.from.ensures, c.unwrap_or.ensures, c.digit.ensures.stands)
+    (value_more _ c.loop-b.b-index c.loop-b.sum (omega arith) c.loop-b.invariant)

@@ -1,9 +1,0 @@
--- `arith::difference_carries` meets its contract. Assumes nothing.
-use mathlib.Core.Path.{sym}
-use Rattle.arith.proofs.Sums.{difference_carries}
-use Rattle.arith.proofs.difference_carries.Goals as goal
-
-pub returns : goal.returns
-returns c =
-    rw (c.beyond.ensures, c.modulus.ensures, c.bit.ensures.is)
-    (sym (difference_carries _ _ _ _))

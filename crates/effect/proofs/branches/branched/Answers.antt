@@ -1,8 +1,0 @@
--- `branches::branched` meets its contract. Assumes nothing.
-use Rattle.effect.proofs.branches.branched.Goals as goal
-
-pub returns-then-taken : goal.returns-then-taken
-returns-then-taken c = simp c.if-taken.true
-
-pub returns-else-taken : goal.returns-else-taken
-returns-else-taken c = simp c.if-taken.false

@@ -1,9 +1,0 @@
--- `branches::continues` meets its contract. Assumes nothing.
-use borrow.Author.Tests.{eq-eqb, ne_eqb}
-use Rattle.effect.proofs.branches.continues.Goals as goal
-
-pub returns-then-left-eq0 : goal.returns-then-left-eq0
-returns-then-left-eq0 c = simp (eq-eqb _ _ c.if-left-eq0.true)
-
-pub returns-else-left-eq0 : goal.returns-else-left-eq0
-returns-else-left-eq0 c = simp (ne_eqb _ _ c.if-left-eq0.false)

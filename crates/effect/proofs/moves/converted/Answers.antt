@@ -1,9 +1,0 @@
--- `moves::converted` meets its contract. Assumes nothing.
-use Rattle.machine.specs.Registers.{with_eip}
-use Rattle.effect.specs.Words.{onward}
-use Rattle.effect.specs.Moves.{move_effect}
-use Rattle.effect.proofs.moves.converted.Goals as goal
-
-pub returns : goal.returns
-unfolding move_effect onward with_eip
-returns c = λ a r eip. rw (← c.loads.ensures, ← c.smaller-from.ensures) (simp (c.sign_extended-v.ensures.is, c.part.ensures))

@@ -1,5 +1,0 @@
--- `stacks::above` meets its contract. Assumes nothing.
-use Rattle.effect.proofs.stacks.above.Goals as goal
-
-pub returns : goal.returns
-returns c = c.low.ensures.is

@@ -1,5 +1,0 @@
--- The measure of `text::put_hex` is the count. Assumes nothing.
-use Rattle.text.proofs.+put_hex.Given as goal
-
-abbrev pub decreases-put_hex : goal.decreases-put_hex
-decreases-put_hex l = l.count

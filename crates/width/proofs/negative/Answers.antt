@@ -1,7 +1,0 @@
--- `width::negative` meets its contract. Assumes nothing.
-use Rattle.width.specs.Numbers.{negative}
-use Rattle.width.proofs.negative.Goals as goal
-
-pub returns : goal.returns
-unfolding negative
-returns c = rw c.half.ensures
