@@ -30,6 +30,7 @@ fn refusal_at(at: usize, fault: Fault) -> Refusal
 }
 
 /// Cuts the code, and marks each start on cleared marks: the count of instructions.
+// Code and marks apart, as in `check`.
 pub fn divide(code: &[u8], marks: &mut [u8]) -> Result<usize, Refusal>
     requires { marks.old ≡ replicate (length code.now) 0 }
     ensures { Divided code.now result marks.new }

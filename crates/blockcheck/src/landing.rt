@@ -14,7 +14,7 @@ fn leads_to(at: usize, size: usize, displacement: u32) -> u32
     requires { at + size < 2 ^ 63 }
     ensures { result ≡ target_of at size displacement }
 {
-    // In 64 bits, as the clause has it: the sum of all four, and then its rest.
+    // In 64 bits, as the clause has it: the sum of all four, and then its rest. `CODE` by `as`, like the lengths: `From` for it alone would be no plainer.
     ((CODE as u64 + at as u64 + size as u64 + u64::from(displacement)) % 0x1_0000_0000) as u32
 }
 
@@ -44,6 +44,7 @@ fn arrives(marks: &[u8], at: usize, d: Decoded) -> bool
 }
 
 /// Whether nothing goes astray here: the mark tells of no displacement, or it leads to a marked start.
+// Code and marks apart, as in `check`.
 fn looks_well(code: &[u8], marks: &[u8], at: usize) -> bool
     requires { at < length marks.now }
     ensures { Looks code.now marks.now at result }
@@ -58,6 +59,7 @@ fn looks_well(code: &[u8], marks: &[u8], at: usize) -> bool
 }
 
 /// The offset of the first instruction whose displacement leads to no start.
+// Code and marks apart, as in `check`.
 pub fn first_astray(code: &[u8], marks: &[u8]) -> Option<usize>
     requires { Whole code.now marks.now }
     ensures { Sought code.now result }

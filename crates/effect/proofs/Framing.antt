@@ -273,13 +273,6 @@ pub lifted : (op : Operation) → on_singles op ≡ false → (regs xmm : List �
 unfolding with_xmm
 lifted op other regs xmm eip word p a r s is = framing op other (held regs eip word) (xmm_of xmm) p a r s ∙ ap (framed (xmm_of xmm)) is
 
--- a single assigned: which one, and its bits, hang on no other
-pub single_framed : (o : Operand) (a : ℕ) (m : Machine) (xmm : List Xmm) (v : ℕ) → assign_single o a (with_xmm m xmm) v ≡ framed xmm (assign_single o a m v)
-unfolding with_xmm becomes writes sets assign_single framed
-single_framed (Register i) a m xmm v = refl
-single_framed Memory a m xmm v = refl
-single_framed (Number n) a m xmm v = refl
-
 -- a single assigned leaves the machine's singles as they are, for the put
 assigned_single : (o : Operand) (a : ℕ) (m : Machine) (v : ℕ) → (assign_single o a m v).machine.xmm ≡ m.xmm
 unfolding becomes writes sets assign_single

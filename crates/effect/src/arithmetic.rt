@@ -30,6 +30,7 @@ pub struct Reckoned {
 }
 
 /// What is read of two operands, of which at most one lies in memory.
+// 0 where none does, as in `words::fetch`.
 #[inline(always)]
 #[tactic(auto, unfolding(crate::specs::Does::got_of, crate::specs::Arithmetic::arithmetic_reads, crate::specs::Words::read_of, crate::specs::Words::read_or))]
 fn fetch(p: &Plan, a: u32, memory: &Memory) -> Result<u32, Outside>

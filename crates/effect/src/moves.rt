@@ -67,6 +67,7 @@ fn given(m: &mut Machine, p: &Plan, a: u32, v: u32, memory: &mut Memory) -> Resu
 }
 
 /// CMOVcc: SRC if the condition with the number n is met, else what DEST was.
+// The condition by its number, as `flags::meets` takes it.
 #[inline(always)]
 #[tactic(auto, unfolding(crate::specs::Moves::chosen))]
 fn chosen(m: &Machine, n: u32, p: &Plan, r: u32) -> u32

@@ -29,6 +29,7 @@ fn value(m: &Machine, o: Operand, r: u32) -> u32
 }
 
 /// v assigned to the destination, and on.
+// Apart from `moves::given`, as `value` is from that of `words`.
 #[tactic(auto, unfolding(crate::specs::Does::done, crate::specs::Does::wrote, crate::specs::Does::written, crate::specs::Singles::assign_single, crate::specs::Words::onward, crate::specs::Words::writes, crate::specs::Words::sets, crate::specs::Words::becomes, crate::specs::Performing::committed, crate::specs::Performing::stored))]
 fn given(m: &mut Machine, p: &Plan, a: u32, v: u32, memory: &mut Memory) -> Result<(), Stop>
     ensures does { Commits (S.assign_single p.now.destination a (W.onward m.old p.now) v) m.old memory.old result m.new memory.new }

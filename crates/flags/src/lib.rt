@@ -39,6 +39,7 @@ pub fn pack(f: Flags) -> u32
 }
 
 /// The flags of a flags word.
+// By name, as `pack`.
 #[tactic(auto, unfolding(crate::specs::Word::flags_of))]
 pub fn unpack(n: u32) -> Flags
     ensures { result ≡ flags_of n }
@@ -128,6 +129,7 @@ pub fn resulting(w: Size, v: u32, cf: bool, af: bool, of: bool, old: Flags) -> F
 }
 
 /// The word of a result: SF, ZF and PF by the result v, CF, AF and OF as given, DF as in the old word.
+// By name: docs/CONTRACTS.md names it.
 pub fn resulting_word(w: Size, v: u32, cf: bool, af: bool, of: bool, word: u32) -> u32
     ensures { flags_of result ≡ resulting w v cf af of (flags_of word) }
 {
@@ -135,6 +137,7 @@ pub fn resulting_word(w: Size, v: u32, cf: bool, af: bool, of: bool, word: u32) 
 }
 
 /// Do the flags meet the condition with the number 2 * n? The one after it is its opposite.
+// By number, as `meets`.
 fn even(n: u32, f: Flags) -> bool
     requires { n < 8 }
     ensures { result ≡ meets (2 * n) f }

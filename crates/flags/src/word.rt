@@ -51,6 +51,7 @@ impl Word {
     }
 
     /// The flags that it means.
+    // By name, as `pack`.
     #[inline(always)]
     pub fn unpack(&self) -> Flags
         ensures { result ≡ self.now }

@@ -34,6 +34,7 @@ struct Prefixes {
 
 // No `Option`: the definition of a decoded instruction, `numbers` in specs/Answers.antt, has 0 for a part that is not there.
 /// An operand in numbers. A part that it does not have is 0.
+// Apart from `plan::Address`, which lies in a crate above.
 #[derive(Clone, Copy)]
 struct Operand {
     modrm: u8,
@@ -212,6 +213,7 @@ impl<'a> Reader<'a> {
             displacement,
         } = self.operand(rule, p.narrow)?;
         let immediate = self.number(immediate_length(rule.immediate, p.narrow, modrm / 8 % 8))?;
+        // Field by field: `Decoded` is open to other crates, `Prefixes` and `Operand` are not.
         Ok(Decoded {
             length: all - self.left(),
             opcode,

@@ -63,6 +63,7 @@ pub fn allows_repeat(rule: PrefixRepeat, repeat: Repeat) -> bool
 }
 
 /// Whether the prefixes are allowed before any opcode after 0F.
+// Two parameters, as `escapes` has them: `Prefixes` is private to `decode`.
 pub fn escapes_after(narrow: bool, repeat: Repeat) -> bool
     ensures { result ≡ escapes narrow repeat }
 {

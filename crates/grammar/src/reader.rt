@@ -98,6 +98,7 @@ impl<'a> Reader<'a> {
 }
 
 /// What stands at a place of the code, by way of a reader.
+// Code and place apart: docs/CONTRACTS.md names it so.
 pub fn read(code: &[u8], at: usize) -> Result<Decoded, Fault>
     ensures { Decodes code.now at result }
 {
@@ -105,6 +106,7 @@ pub fn read(code: &[u8], at: usize) -> Result<Decoded, Fault>
 }
 
 /// The bytes of a decoded instruction at its place, as a part of the code.
+// Code and place apart, as in `read`.
 pub fn own_bytes(code: &[u8], at: usize, d: Decoded) -> &[u8]
     ensures { result.now ≡ own_bytes d (drop at code.now) }
 {

@@ -25,6 +25,7 @@ fn worth(byte: u8) -> u8
 }
 
 /// The byte that the two digits at a place stand for.
+// Bytes and a place: `Line::read` calls it before there is a `Line`.
 #[tactic(auto, unfolding(crate::specs::Reading::byte_at))]
 pub fn byte_at(line: &[u8], i: usize) -> u8
     requires { suc i < length line.now }

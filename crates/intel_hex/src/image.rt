@@ -7,6 +7,7 @@ use crate::fault::Fault;
 use crate::line::Line;
 
 /// The most bytes of code: one for each address from 00010000h to 0001FFFFh.
+// Of its own, as `CODE` in `judging`: the hex reader stands apart from the emulator, whose `blockcheck` has both.
 pub const MOST: usize = 65536;
 
 /// What fills the code where no byte is given.

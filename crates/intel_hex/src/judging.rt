@@ -7,6 +7,7 @@ use crate::image::{Image, MOST};
 use crate::line::Line;
 
 /// Code offset 0.
+// Of its own, as `image::MOST`.
 const CODE: usize = 0x0001_0000;
 
 /// What is known after some lines: whether an end record was among them, the upper half, the code's length so far.

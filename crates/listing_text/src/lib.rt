@@ -14,6 +14,7 @@ use streams::read_full;
 use text::Buffer;
 
 /// Checks a block, and writes its text from the start of a buffer on. Gives the place after the text.
+// Code and marks apart, as callers lend them, here and below.
 pub fn list(code: &[u8], marks: &mut [u8], out: &mut [u8]) -> usize
     ensures { Listed code.now marks.old out.old result marks.new out.new }
 {

@@ -31,6 +31,7 @@ fn put_line(out: &mut Buffer, offset: usize, size: usize, opcode: usize)
 pub fn put_lines(code: &[u8], count: usize, out: &mut Buffer)
     ensures { Adds out.old (lines_from code.now count 0) out.new }
 {
+    // By hand: the offset goes on by each instruction's length.
     let mut offset = 0;
     for _ in 0..count {
         let Ok(instruction) = read(code, offset) else {

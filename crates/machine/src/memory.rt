@@ -60,6 +60,7 @@ fn number(part: &[u8], w: Size) -> u32
 }
 
 /// The bytes of a number of the size, the low byte first, from a place on.
+// An area and a place, as the clause has them: it is over the whole area.
 #[inline(always)]
 #[tactic(auto, unfolding(width::specs::Sizes::bytes, width::specs::LittleEndian::bytes_of))]
 fn put(area: &mut [u8], at: usize, w: Size, v: u32)

@@ -112,6 +112,7 @@ pub fn operand_at(place: Place, d: Decoded, w: Size) -> Operand
     ensures { result ≡ operand_of place d w }
 {
     match place {
+        // 0, as `operand_of` in specs/Plans.antt has it.
         Place::Absent => Operand::Number(0),
         Place::Rm => {
             if d.modrm / 64 == 3 {
@@ -132,6 +133,7 @@ pub fn operand_at(place: Place, d: Decoded, w: Size) -> Operand
 }
 
 /// The immediate as a displacement alone: Mod 0 and R/M 5.
+// No SIB byte is looked at with R/M 5: 0, as `offset_alone` in specs/Plans.antt has it.
 #[tactic(auto, unfolding(crate::specs::Plans::offset_alone))]
 fn offset_alone(immediate: u32) -> Address
     ensures { result ≡ offset_alone immediate }
@@ -152,6 +154,7 @@ fn is_offset(place: Place) -> bool
 }
 
 /// What the effective address is computed from: the offset alone, as a displacement; else the instruction's ModR/M, SIB and displacement.
+// Field by field: of the eight an address needs these three.
 #[tactic(auto, unfolding(crate::specs::Plans::address_in))]
 fn address_in(s: Sense, d: Decoded) -> Address
     ensures { result ≡ address_in s d }

@@ -151,6 +151,7 @@ fn steps(code: &[u8], m: &mut Machine, memory: &mut Memory, budget: u64) -> (u64
 }
 
 /// A run of a block.
+// Constants and data apart, as callers lend them.
 #[tactic(auto, using(crate::proofs::Handing::hands_taken, crate::proofs::Handing::hands_refused), unfolding(crate::specs::Runs::taken, crate::specs::Runs::refused, crate::specs::Runs::told, crate::specs::Runs::number_at, crate::specs::Runs::address_at, crate::specs::Runs::closed))]
 pub fn run(l: Lent, code: &[u8], constants: &[u8], area: &mut [u8], budget: u64) -> Ran
     ensures { Runs (run_of (fixed_to code.now constants.now) l area.old budget) result area.new }

@@ -36,6 +36,7 @@ pub(crate) fn kept_step(
 }
 
 /// One step: the next machine, with the data changed, or a stop that changes nothing.
+// Constants and data apart, as callers lend them.
 #[tactic(auto, using(crate::proofs::Sites::step_is), unfolding(crate::specs::Sites::stepped))]
 pub fn step(
     code: &[u8],

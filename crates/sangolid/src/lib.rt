@@ -14,6 +14,7 @@ use scalar::Xmm;
 const MISFIT: u32 = 90;
 
 /// The machine in the first eighteen words of the state.
+// No `From`, which can't ask that there be 20 words.
 #[tactic(auto, unfolding(crate::specs::Interface::lent_of))]
 fn lent(state: &[u32]) -> Lent
     requires { length state.now ≡ 20 }
@@ -120,6 +121,7 @@ fn word_of(n: usize) -> u32
 }
 
 /// Reads a hex file into the code area, and puts the code's length or the line into the answer.
+// Apart from `sangolid_check`, as C names them.
 pub fn sangolid_hex(text: &[u8], code: &mut [u8], answer: &mut [u32]) -> u32
     ensures { Unhexes text.now code.old answer.old result code.new answer.new }
 {

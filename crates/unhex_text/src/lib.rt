@@ -91,6 +91,7 @@ fn answer<R: Read>(from: &mut R, code: &mut [u8], line: &mut [u8]) -> Ends
 }
 
 /// Writes the code of the hex file that is read to `out`, or why it is refused to `err`. A write that fails is dropped, and a read that fails ends the input.
+// Fixed buffers, as in `answer`; 65,536 bytes, the most that `intel_hex` fills, which keeps its bound to itself.
 pub fn unhex_input<R: Read>(from: &mut R, out: &impl Print, err: &impl Print) {
     let mut code = [0u8; 65536];
     let mut line = [0u8; 34];
@@ -102,6 +103,7 @@ pub fn unhex_input<R: Read>(from: &mut R, out: &impl Print, err: &impl Print) {
 }
 
 /// Says what is found of a hex file: how long its code is, or why it is refused. A write that fails is dropped, and a read that fails ends the input.
+// Fixed buffers, as in `unhex_input`.
 pub fn say_file<R: Read>(from: &mut R, out: &impl Print) {
     let mut code = [0u8; 65536];
     let mut line = [0u8; 34];

@@ -47,6 +47,7 @@ fn state_before(line: &[u8]) -> [u32; 20]
 }
 
 /// Compares numbers with those of the line, from a first field on.
+// Line and number apart, as in `vector_text::fields`.
 fn compare_numbers(line: &[u8], told: &[u32], first: usize) -> Result<(), Difference>
     requires { first + length told.now ≤ 50 }
     ensures { result ≡ first_other line.now (numbers_from first told.now) }
@@ -150,6 +151,7 @@ fn room() -> [u8; 65540]
 }
 
 /// The size in the field of a number; malformed if there is no room for it, or the bytes in the next field don't fit it.
+// Line and number apart, as in `vector_text::fields`.
 #[tactic(auto, unfolding(crate::specs::Cases::area_fits, crate::specs::Cases::number_of))]
 fn size_in(line: &[u8], number: usize) -> Result<usize, Difference>
     requires { number < 33 }

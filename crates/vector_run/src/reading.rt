@@ -76,6 +76,7 @@ pub fn take_all<R: Read>(from: &mut R, to: &impl Print) -> Tally {
         line: [0; 1024],
         held: 0,
     };
+    // Fixed, since this cannot fail and a `Vec` can.
     let mut chunk = [0; 4096];
     for _ in 0..u64::MAX {
         let n = read_full(from, &mut chunk);

@@ -58,6 +58,7 @@ pub fn has_form(line: &[u8], sorts: &[u8]) -> bool
 }
 
 /// The field of a number, the first being 1; nothing if the line has fewer.
+// Line and number apart, here and below: docs/CONTRACTS.md names them so.
 pub fn field(line: &[u8], number: usize) -> &[u8]
     ensures { result.now ≡ field_of line.now number }
 {

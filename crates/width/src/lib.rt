@@ -40,6 +40,7 @@ impl Size {
     }
 
     /// How many bytes.
+    // By size, as `bits`: `self.bits() / 8` would need a cast and be no plainer.
     #[inline(always)]
     #[tactic(auto, unfolding(crate::specs::Sizes::bytes))]
     pub fn bytes(self) -> usize
