@@ -35,7 +35,7 @@ pub enum Refusal {
 }
 
 impl Refusal {
-    /// The paper's number: 10, 14, 21, 22 or 23.
+    /// The number that callers get: 10, 14, 21, 22 or 23, in the order of the reasons.
     pub fn number(self) -> u32
         ensures { result ≡ number_of (Err self) }
     {
@@ -48,7 +48,7 @@ impl Refusal {
         }
     }
 
-    /// The paper's offset in the code; 0 where a length is wrong.
+    /// The offset in the code that comes with it; 0 where a length is wrong.
     pub fn offset(self) -> usize
         ensures { result ≡ value_of (Err self) }
     {

@@ -1,9 +1,9 @@
--- Why a step stops: document 01's numbers 1 to 7, and the address that comes with each. Assumes nothing.
+-- Why a step stops: its number, 1 to 7, and the address that comes with it. Assumes nothing.
 use Rattle.std.specs.Prelude.{ℕ}
 use Rattle.effect.specs.declared.stop.Stop.{Stop}
 use Rattle.effect.specs.declared.stop.Stop.TheVariants.{Home, OutsideCode, Cut, Unknown, Read, Write, Divide}
 
--- document 01's number
+-- the number of each reason
 abbrev pub number_of : Stop → ℕ
 number_of Home = 1
 number_of OutsideCode = 2

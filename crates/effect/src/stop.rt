@@ -17,7 +17,7 @@ pub enum Stop {
 }
 
 impl Stop {
-    /// Document 01's number, 1 to 7.
+    /// The number that callers get, 1 to 7 in the order of the reasons.
     pub fn number(self) -> u32
         ensures { result ≡ number_of self }
     {

@@ -82,7 +82,7 @@ pub enum End {
 }
 
 impl End {
-    /// The document's number, 0 for the budget.
+    /// The number that callers get, 0 for the budget.
     #[tactic(auto, unfolding(crate::specs::Runs::number_at))]
     pub fn number(self) -> u32
         ensures { result ≡ number_at self }
@@ -116,7 +116,7 @@ pub struct Ran {
 }
 
 impl Ran {
-    /// The document's number of the end, 0 for the budget.
+    /// The number of the end, 0 for the budget.
     #[tactic(auto, unfolding(crate::specs::Runs::told))]
     pub fn number(&self) -> u32
         ensures { result ≡ (told self.now).number }

@@ -16,7 +16,7 @@ pub enum Refusal {
 }
 
 impl Refusal {
-    /// The document's number.
+    /// The number that callers get.
     #[tactic(auto, unfolding(crate::specs::Runs::number_of))]
     pub fn number(self) -> u32
         ensures { result ≡ number_of self }
@@ -37,7 +37,7 @@ const MOST_LENT: usize = 65_536;
 /// The most steps.
 const MOST_STEPS: u64 = 1_000_000;
 
-/// The tests of what a run is handed, in the document's order.
+/// The tests of what a run is handed: code, data, constants, flags, budget; the first that fails decides.
 #[tactic(auto, unfolding(crate::specs::Runs::refusal, crate::specs::Runs::number_of))]
 pub fn admit(
     code_length: usize,
