@@ -40,10 +40,15 @@ pub fn of_bits(w: Size, k: u32) -> u32
 }
 
 /// The count modulo one more than the size's bits, by which RCL and RCR turn.
+// By size, as the manual gives it: each is a rest by a constant, where a formula over the bits would divide.
 fn of_bits_and_carry(w: Size, k: u32) -> u32
     ensures { Part (bits w + 1) k result }
 {
-    k % (w.bits() + 1)
+    match w {
+        Size::Byte => k % 9,
+        Size::Word => k % 17,
+        Size::Dword => k % 33,
+    }
 }
 
 /// A number of b bits, turned right by k: its low k bits go to the top.

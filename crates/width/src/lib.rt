@@ -134,14 +134,13 @@ impl Size {
     }
 }
 
-/// Is bit k of n set?
+/// Is bit k of n set? None is from 64 on.
 #[inline(always)]
 #[tactic(auto, unfolding(crate::specs::Numbers::bit_at))]
 pub fn bit_at(k: u32, n: u64) -> bool
-    requires { k < 64 }
     ensures { result ≡ bit_at k n }
 {
-    (n >> k) % 2 == 1
+    k < 64 && (n >> k) % 2 == 1
 }
 
 /// Is p - q none of the numbers below m?

@@ -1,14 +1,19 @@
--- `shift::of_bits_and_carry` meets its contract. Assumes nothing.
-use mathlib.Core.Path.{refl}
+-- `shift::of_bits_and_carry` meets its contract: each size by arithmetic. Assumes nothing.
 use native.Mathlib.Omega.{arith}
-use Rattle.shift.proofs.Turns.{few}
+use Rattle.width.specs.Sizes.{bits}
 use Rattle.shift.proofs.of_bits_and_carry.Goals as goal
 
-pub nonzero_rem-result : goal.nonzero_rem-result
-nonzero_rem-result c = let sizes = few c.args.w in omega arith
+pub returns-in-Byte : goal.returns-in-Byte
+unfolding bits
+returns-in-Byte c =
+    rw c.in-Byte.is (omega arith)
 
-pub returns : goal.returns
-returns c = let sizes = few c.args.w in rw c.bits.ensures (record { is = refl; below = omega arith })
+pub returns-in-Word : goal.returns-in-Word
+unfolding bits
+returns-in-Word c =
+    rw c.in-Word.is (omega arith)
 
-pub overflow_add-result : goal.overflow_add-result
-overflow_add-result c = let sizes = few c.args.w in omega arith
+pub returns-in-Dword : goal.returns-in-Dword
+unfolding bits
+returns-in-Dword c =
+    rw c.in-Dword.is (omega arith)

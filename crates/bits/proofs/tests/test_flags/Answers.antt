@@ -1,13 +1,7 @@
 -- `bits::tests::test_flags` meets its contract: CF by the selected bit, every other flag undefined. Assumes nothing.
-use native.Mathlib.Omega.{arith}
-use Rattle.shift.proofs.Turns.{few}
 use Rattle.flags.specs.Results.{all_undefined}
 use Rattle.bits.specs.Tests.{selected, test_flags}
 use Rattle.bits.proofs.tests.test_flags.Goals as goal
-
-pub bit_at-requires : goal.bit_at-requires
-bit_at-requires c =
-    let sizes = few c.args.w in omega arith
 
 pub returns : goal.returns
 unfolding all_undefined selected test_flags

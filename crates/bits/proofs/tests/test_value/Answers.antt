@@ -4,10 +4,6 @@ use Rattle.shift.proofs.Turns.{few}
 use Rattle.bits.specs.Tests.{selected, test_value}
 use Rattle.bits.proofs.tests.test_value.Goals as goal
 
-pub bit_at-requires : goal.bit_at-requires
-bit_at-requires c =
-    let sizes = few c.args.w in omega arith
-
 pub with_bit-requires : goal.with_bit-requires
 with_bit-requires c =
     let sizes = few c.args.w in omega arith

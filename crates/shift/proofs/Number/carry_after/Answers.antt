@@ -1,17 +1,7 @@
 -- `shift::Number::carry_after` meets its contract: an instruction an arm. Assumes nothing.
-use native.Mathlib.Omega.{arith}
-use Rattle.shift.proofs.Turns.{few}
 use Rattle.shift.specs.Changes.{carry_after}
 use Rattle.shift.specs.Values.{shifted}
 use Rattle.shift.proofs.Number.carry_after.Goals as goal
-
-pub bit_at-requires-in-Rcl : goal.bit_at-requires-in-Rcl
-bit_at-requires-in-Rcl c =
-    let sizes = few c.args.self.size in omega arith
-
-pub bit_at-requires-in-Rcr : goal.bit_at-requires-in-Rcr
-bit_at-requires-in-Rcr c =
-    let sizes = few c.args.self.size in omega arith
 
 pub returns-in-Rol : goal.returns-in-Rol
 unfolding carry_after

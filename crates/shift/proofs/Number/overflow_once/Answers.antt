@@ -8,10 +8,6 @@ pub overflow_sub-bits : goal.overflow_sub-bits
 overflow_sub-bits c =
     let sizes = few c.args.self.size in omega arith
 
-pub bit_at-second-requires : goal.bit_at-second-requires
-bit_at-second-requires c =
-    let sizes = few c.args.self.size in omega arith
-
 pub returns-in-Rol : goal.returns-in-Rol
 unfolding overflow_once
 returns-in-Rol c =

@@ -1,16 +1,6 @@
 -- `bits::doubles::Operands::last_out` meets its contract: an instruction an arm. Assumes nothing.
-use native.Mathlib.Omega.{arith}
-use Rattle.shift.proofs.Turns.{few}
 use Rattle.bits.specs.Doubles.{last_out}
 use Rattle.bits.proofs.doubles.Operands.last_out.Goals as goal
-
-pub bit_at-requires : goal.bit_at-requires
-bit_at-requires c =
-    let sizes = few c.args.self.size in omega arith
-
-pub bit_at-requires-in-Shrd : goal.bit_at-requires-in-Shrd
-bit_at-requires-in-Shrd c =
-    let sizes = few c.args.self.size in omega arith
 
 pub returns-in-Shld : goal.returns-in-Shld
 unfolding last_out
