@@ -23,7 +23,7 @@ use shift::Shift;
 use width::Size;
 
 /// What an operation computes: the flags, and a value where it is assigned.
-#[derive(Drop)]
+#[derive(Clone, Copy)]
 pub struct Reckoned {
     pub flags: Word,
     pub value: Option<u32>,

@@ -5,8 +5,8 @@ ghost use Rattle.flags.specs.Word.{flags_of};
 use crate::Flags;
 use std::marker::Model;
 
-/// The flags as one word; in clauses they are `Flags`.
-#[derive(Clone, Drop)]
+/// The flags as one word; in clauses they are `Flags`. Its bits are those that `pack` gives.
+#[derive(Clone, Copy, Debug, PartialEq, Eq)]
 pub struct Word {
     bits: u32,
 }
@@ -16,9 +16,16 @@ impl Model for Word {
 
     ghost Value = { F.Flags };
 
+    ghost use Rattle.std.specs.Prelude.{◌≡◌};
     ghost use Rattle.flags.specs.Word as W;
 
     ghost view = { λ w. W.flags_of w.bits };
+
+    ghost invariant = { λ w. W.word_of (W.flags_of w.bits) ≡ w.bits };
+
+    ghost inverse = { λ f. record { bits = W.word_of f } };
+
+    ghost inverse_ok = { λ w own i. record { bits = own i } };
 }
 
 impl Word {
@@ -27,7 +34,7 @@ impl Word {
     pub fn of_bits(bits: u32) -> Word
         ensures { result ≡ flags_of bits }
     {
-        Word { bits }
+        Word::pack(crate::unpack(bits))
     }
 
     /// A word of the flags.

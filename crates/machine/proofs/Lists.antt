@@ -1,12 +1,13 @@
 -- Elements of a list one by one, and what is put into one of them. Assumes nothing.
 use mathlib.Core.Path.{◌≡◌, refl, ap, ◌∙◌}
-use mathlib.Core.List.{List, [], ◌∷◌}
+use mathlib.Core.List.{List, [], ◌∷◌, map}
 use Prim.Native.Nat.{ℕ, zero, suc, ◌+◌, ◌%◌, ◌≤◌}
 use native.Mathlib.Omega.{arith}
 use lib.ListN.{length, get_or, set, length-set, take, drop}
 use lib.Seq.{drop-cons, take_all, get_or-set_same, get_or-set_other}
 use Rattle.scalar.specs.declared.Xmm.{Xmm}
 use Rattle.machine.specs.Registers.{xmm, bits_in, with_bits}
+use Rattle.machine.specs.Lending.{xmm_of}
 
 -- so many elements from a place on, one by one
 abbrev pub listed : {A : Type 0} → A → ℕ → ℕ → List A → List A
@@ -22,6 +23,11 @@ part_listed {A} d (suc n) k l h =
 -- eight are the whole list, where it has eight
 pub eight_listed : {A : Type 0} (d : A) (l : List A) → length l ≡ 8 → listed d 8 0 l ≡ l
 eight_listed d l eight = part_listed d 8 0 l (omega arith) ∙ take_all 8 l (omega arith)
+
+-- the XMM registers of their own bits, one by one
+pub of_bits : (all : List Xmm) → length all ≡ 8 → xmm_of (map (λ (x : Xmm). x.bits) (listed (xmm 0) 8 0 all)) ≡ all
+unfolding xmm_of
+of_bits all eight = eight_listed (xmm 0) all eight
 
 -- a value put after another one at the same place may be worked out from the other: for every list, also one that has no such place
 pub again : (regs : List ℕ) (i x : ℕ) (f : ℕ → ℕ) → set (set regs i x) i (f (get_or (set regs i x) i 0)) ≡ set (set regs i x) i (f x)

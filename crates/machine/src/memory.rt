@@ -83,6 +83,63 @@ fn put(area: &mut [u8], at: usize, w: Size, v: u32)
     }
 }
 
+/// The first address outside for a read at a: of the area that holds the byte there; where neither does, a itself.
+#[tactic(auto, unfolding(crate::specs::Memory::first_unread, crate::specs::Memory::place_of, crate::specs::Memory::data_base, crate::specs::Memory::constants_base))]
+fn first_unread(constants: &[u8], area: &[u8], a: u32) -> u32
+    ensures { result ≡ first_unread constants.now area.now a }
+{
+    match locate(DATA, area.len(), 1, a) {
+        Some(_) => first_outside(DATA, area.len(), a),
+        None => first_outside(CONSTANTS, constants.len(), a),
+    }
+}
+
+/// The bytes of a read of n bytes at address a, as a part of whichever area holds all of them.
+// Constants and data apart, here and in `load`: neither needs to be lent for writing.
+#[inline(always)]
+#[tactic(auto, unfolding(crate::specs::Memory::read_of, crate::specs::Memory::part_of, crate::specs::Memory::place_of, crate::specs::Memory::holds, crate::specs::Memory::data_base, crate::specs::Memory::constants_base))]
+pub fn read<'a>(constants: &'a [u8], area: &'a [u8], n: usize, a: u32) -> Result<&'a [u8], Outside>
+    ensures bytes { read_of constants.now area.now n a ≡ shown (λ part. part.now) result }
+    ensures long { IfOk result (λ part. length part.now ≡ n) }
+{
+    if let Some(at) = locate(DATA, area.len(), n, a) {
+        return Ok(&area[at..at + n]);
+    }
+    if let Some(at) = locate(CONSTANTS, constants.len(), n, a) {
+        return Ok(&constants[at..at + n]);
+    }
+    Err(Outside {
+        address: first_unread(constants, area, a),
+    })
+}
+
+/// A load of a number of the size.
+#[inline(always)]
+#[tactic(auto, unfolding(crate::specs::Memory::load_of, crate::specs::Memory::numbered))]
+pub fn load(constants: &[u8], area: &[u8], w: Size, a: u32) -> Result<u32, Outside>
+    ensures { load_of constants.now area.now w a ≡ loaded_as result }
+{
+    let part = read(constants, area, w.bytes(), a)?;
+    Ok(number(part, w))
+}
+
+/// A store of a number of the size, to data only; refused, it changes nothing.
+#[inline(always)]
+#[tactic(auto, unfolding(crate::specs::Memory::stored_of, crate::specs::Memory::store_of, crate::specs::Memory::place_of, crate::specs::Memory::holds, crate::specs::Memory::data_base))]
+pub fn store(area: &mut [u8], w: Size, a: u32, v: u32) -> Result<(), Outside>
+    ensures answer { stored_of area.old w a ≡ stored_as result }
+    ensures data { area.new ≡ store_of area.old w a v }
+    ensures err { OnErr result (area.new ≡ area.old) }
+{
+    let Some(at) = locate(DATA, area.len(), w.bytes(), a) else {
+        return Err(Outside {
+            address: first_outside(DATA, area.len(), a),
+        });
+    };
+    put(area, at, w, v);
+    Ok(())
+}
+
 /// The areas that a run is lent: constants at 00200000h and data at 00100000h, upward.
 #[derive(Debug, Drop)]
 pub struct Memory<'a> {
@@ -93,58 +150,29 @@ pub struct Memory<'a> {
 impl<'a> Memory<'a> {
     /// The bytes of a read of n bytes at address a, as a part of whichever area holds all of them.
     #[inline(always)]
-    #[tactic(auto, unfolding(crate::specs::Memory::read_of, crate::specs::Memory::part_of, crate::specs::Memory::place_of, crate::specs::Memory::holds, crate::specs::Memory::data_base, crate::specs::Memory::constants_base))]
     pub fn read(&self, n: usize, a: u32) -> Result<&[u8], Outside>
         ensures bytes { read_of self.now.constants.now self.now.area.now n a ≡ shown (λ part. part.now) result }
         ensures long { IfOk result (λ part. length part.now ≡ n) }
     {
-        if let Some(at) = locate(DATA, self.area.len(), n, a) {
-            return Ok(&self.area[at..at + n]);
-        }
-        if let Some(at) = locate(CONSTANTS, self.constants.len(), n, a) {
-            return Ok(&self.constants[at..at + n]);
-        }
-        Err(Outside {
-            address: self.first_unread(a),
-        })
-    }
-
-    /// The first address outside for a read at a: of the area that holds the byte there; where neither does, a itself.
-    #[tactic(auto, unfolding(crate::specs::Memory::first_unread, crate::specs::Memory::place_of, crate::specs::Memory::data_base, crate::specs::Memory::constants_base))]
-    fn first_unread(&self, a: u32) -> u32
-        ensures { result ≡ first_unread self.now.constants.now self.now.area.now a }
-    {
-        match locate(DATA, self.area.len(), 1, a) {
-            Some(_) => first_outside(DATA, self.area.len(), a),
-            None => first_outside(CONSTANTS, self.constants.len(), a),
-        }
+        read(self.constants, self.area, n, a)
     }
 
     /// A load of a number of the size.
     // A call of its own: written out at each use it would take 3 KB of ROM more.
     #[inline(never)]
-    #[tactic(auto, unfolding(crate::specs::Memory::load_of, crate::specs::Memory::numbered))]
     pub fn load(&self, w: Size, a: u32) -> Result<u32, Outside>
         ensures { load_of self.now.constants.now self.now.area.now w a ≡ loaded_as result }
     {
-        let part = self.read(w.bytes(), a)?;
-        Ok(number(part, w))
+        load(self.constants, self.area, w, a)
     }
 
     /// A store of a number of the size, to data only; refused, it changes nothing.
-    #[tactic(auto, unfolding(crate::specs::Memory::stored_of, crate::specs::Memory::store_of, crate::specs::Memory::place_of, crate::specs::Memory::holds, crate::specs::Memory::data_base))]
     pub fn store(&mut self, w: Size, a: u32, v: u32) -> Result<(), Outside>
         ensures answer { stored_of self.old.area.now w a ≡ stored_as result }
         ensures data { self.new.area.now ≡ store_of self.old.area.now w a v }
         ensures err { OnErr result (self.new.area.now ≡ self.old.area.now) }
         ensures same_areas { SameAreas self.old self.new }
     {
-        let Some(at) = locate(DATA, self.area.len(), w.bytes(), a) else {
-            return Err(Outside {
-                address: first_outside(DATA, self.area.len(), a),
-            });
-        };
-        put(self.area, at, w, v);
-        Ok(())
+        store(self.area, w, a, v)
     }
 }

@@ -15,6 +15,7 @@ ghost use Rattle.machine.specs.Registers.{
   replaced,
   with_part,
 };
+ghost use Rattle.machine.specs.Lending.{xmm_of};
 
 use flags::Word;
 use scalar::Xmm;
@@ -41,12 +42,45 @@ pub const EDI: u32 = 7;
 pub const AH: u32 = 4;
 
 /// The machine. In clauses its flags are `Flags`.
-#[derive(Clone, Drop)]
+#[derive(Clone, Copy)]
 pub struct Machine {
     pub regs: [u32; 8],
     pub xmm: [Xmm; 8],
     pub eip: u32,
     pub flags: Word,
+}
+
+/// XMM registers by their bits.
+// Element by element, here and in `xmm_of`: what `map` ensures leaves the clauses open.
+pub fn bits_of(xmm: [Xmm; 8]) -> [u32; 8]
+    ensures { xmm_of result ≡ xmm }
+{
+    [
+        xmm[0].bits,
+        xmm[1].bits,
+        xmm[2].bits,
+        xmm[3].bits,
+        xmm[4].bits,
+        xmm[5].bits,
+        xmm[6].bits,
+        xmm[7].bits,
+    ]
+}
+
+/// The XMM registers of their bits.
+pub fn xmm_of(bits: [u32; 8]) -> [Xmm; 8]
+    ensures { result ≡ xmm_of bits }
+{
+    [
+        Xmm { bits: bits[0] },
+        Xmm { bits: bits[1] },
+        Xmm { bits: bits[2] },
+        Xmm { bits: bits[3] },
+        Xmm { bits: bits[4] },
+        Xmm { bits: bits[5] },
+        Xmm { bits: bits[6] },
+        Xmm { bits: bits[7] },
+    ]
 }
 
 /// The number of the register that a part lies in: AL CL DL BL AH CH DH BH lie in the first four.

@@ -10,7 +10,7 @@ use machine::memory::Memory;
 use machine::registers::Machine;
 
 /// A step that stopped: the machine as it was, and why.
-#[derive(Clone, Drop)]
+#[derive(Clone, Copy)]
 pub struct Stopped {
     pub machine: Machine,
     pub stop: Stop,

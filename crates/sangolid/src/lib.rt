@@ -6,8 +6,8 @@ ghost use Rattle.run.specs.Steps.{fixed_to};
 ghost use Rattle.run.specs.Runs.{told};
 ghost use Rattle.sangolid.specs.Interface.{lent_of, state_of, call_of, Calls, Checks, word_of, Unhexes};
 
+use machine::registers::xmm_of;
 use run::{Lent, Ran};
-use scalar::Xmm;
 
 /// What a state or an answer area of another length is refused with; nothing is changed.
 // A number, as C gets it: there is nothing else to say of it.
@@ -15,7 +15,7 @@ const MISFIT: u32 = 90;
 
 /// The machine in the first eighteen words of the state.
 // No `From`, which can't ask that there be 20 words.
-#[tactic(auto, unfolding(crate::specs::Interface::lent_of))]
+#[tactic(auto, unfolding(crate::specs::Interface::lent_of, machine::specs::Lending::xmm_of))]
 fn lent(state: &[u32]) -> Lent
     requires { length state.now ≡ 20 }
     ensures { result ≡ lent_of state.now }
@@ -24,19 +24,12 @@ fn lent(state: &[u32]) -> Lent
     let regs = [
         state[0], state[1], state[2], state[3], state[4], state[5], state[6], state[7],
     ];
-    let xmm = [
-        Xmm { bits: state[10] },
-        Xmm { bits: state[11] },
-        Xmm { bits: state[12] },
-        Xmm { bits: state[13] },
-        Xmm { bits: state[14] },
-        Xmm { bits: state[15] },
-        Xmm { bits: state[16] },
-        Xmm { bits: state[17] },
+    let singles = [
+        state[10], state[11], state[12], state[13], state[14], state[15], state[16], state[17],
     ];
     Lent {
         regs,
-        xmm,
+        xmm: xmm_of(singles),
         eip: state[8],
         word: state[9],
     }
