@@ -16,12 +16,12 @@ ghost use Rattle.grammar.specs.Fields.{
   instruction_at,
 };
 
+use crate::cursor::Cursor;
 use crate::instruction::{Decoded, Fault};
 use crate::parts::{
     allows_66, allows_modrm, allows_repeat, displacement_length, escapes_after, has_modrm, has_sib,
     immediate_length,
 };
-use crate::reader::Reader;
 use crate::rule::{Repeat, Rule};
 use crate::table::look_up;
 
@@ -54,7 +54,7 @@ fn accepted(p: Prefixes, opcode: usize) -> Result<Rule, Fault>
     Ok(rule)
 }
 
-impl<'a> Reader<'a> {
+impl<'a> Cursor<'a> {
     /// The byte after prefixes.
     fn byte_after(&mut self, p: Prefixes) -> Result<(Prefixes, u8), Fault>
         ensures reads { Reads self.new result (byte_after p self.old) }

@@ -2,6 +2,7 @@
 #![tactic(auto)]
 
 mod bytes;
+mod cursor;
 mod decode;
 pub mod instruction;
 mod parts;

@@ -1,4 +1,4 @@
--- `grammar::reader::read` meets its contract: what a reader returns is what decode gives.
+-- `grammar::reader::read` meets its contract: what a cursor returns is what decode gives.
 use Rattle.std.proofs.Common.{arith}
 use Rattle.grammar.proofs.Lefts.{read_is}
 use Rattle.grammar.proofs.reader.read.Goals as goal

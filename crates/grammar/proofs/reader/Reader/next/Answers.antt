@@ -2,5 +2,5 @@
 use Rattle.grammar.proofs.Lefts.{decodes_left}
 use Rattle.grammar.proofs.reader.Reader.next.Goals as goal
 
-pub returns : goal.returns
-returns c = rw (← c.self.view_is) (decodes_left c.self.inside.code.now c.self.inside.at c.read.ensures)
+pub returns-clause-left : goal.returns-clause-left
+returns-clause-left c = decodes_left c.args.self.code.now c.args.self.at c.read.ensures

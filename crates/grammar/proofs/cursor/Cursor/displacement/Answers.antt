@@ -1,7 +1,7 @@
 use Rattle.std.proofs.Common.{subst}
 use Rattle.grammar.specs.Fields.{Reads}
 use Rattle.grammar.proofs.Endian.{number_displacement}
-use Rattle.grammar.proofs.reader.Reader.displacement.Goals as goal
+use Rattle.grammar.proofs.cursor.Cursor.displacement.Goals as goal
 
 pub returns-clause-reads : goal.returns-clause-reads
 returns-clause-reads c =
