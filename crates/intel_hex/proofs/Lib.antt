@@ -7,6 +7,7 @@ pub mod Lining
 pub mod Adding
 pub mod Giving
 pub mod Faults
+pub mod Cells
 pub mod Picture
 pub mod Knowing
 pub mod Judgements

@@ -3,4 +3,5 @@ pub mod Lines
 pub mod Records
 pub mod Files
 pub mod Writing
+pub mod Cells
 pub mod Reading

@@ -3,6 +3,7 @@ ghost use Rattle.std.specs.Prelude.{◌≡◌, List, ℕ, ◌+◌, ◌≤◌, le
 ghost use Rattle.intel_hex.specs.Files.{given_from, code_base};
 ghost use Rattle.intel_hex.specs.Reading.{bytes_at, Shows, Lays, Copied};
 
+use crate::cell::Cell;
 use crate::fault::Fault;
 use crate::line::Line;
 
@@ -10,14 +11,11 @@ use crate::line::Line;
 // Of its own, as `CODE` in `judging`: the hex reader stands apart from the emulator, whose `blockcheck` has both.
 pub const MOST: usize = 65536;
 
-/// What fills the code where no byte is given.
-const GAP: u8 = 0x90;
-
 /// The byte given for each address from 00010000h to 0001FFFFh, if one was.
 // A fixed array: `read` cannot fail for want of memory, and asks for none.
 #[derive(Drop)]
 pub struct Image {
-    cells: [Option<u8>; MOST],
+    cells: [Cell; MOST],
 }
 
 impl Image {
@@ -26,7 +24,7 @@ impl Image {
         ensures { result.cells ≡ replicate 65536 None }
     {
         Image {
-            cells: [None; MOST],
+            cells: [Cell::blank(); MOST],
         }
     }
 
@@ -39,10 +37,10 @@ impl Image {
         for k in 0..line.count {
             let byte = line.data(k);
             let given = self.cells[from + k];
-            if given.is_some() {
+            if given.is_given() {
                 return Err(Fault::GivenBefore);
             }
-            self.cells[from + k] = Some(byte);
+            self.cells[from + k] = Cell::given(byte);
         }
         Ok(())
     }
@@ -54,7 +52,7 @@ impl Image {
     {
         // By place, for nothing is known of what a zip of iter_mut writes.
         for i in 0..code.len() {
-            code[i] = self.cells[i].unwrap_or(GAP);
+            code[i] = self.cells[i].filled();
         }
     }
 }

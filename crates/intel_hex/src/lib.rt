@@ -1,6 +1,7 @@
 //! Reading Intel HEX: the code that a file gives, or why it is refused and at which line.
 #![tactic(auto)]
 
+mod cell;
 mod digits;
 mod fault;
 mod image;
