@@ -1,6 +1,6 @@
 //! The fields of a line, parted by tabs: their sorts, and their numbers.
 
-ghost use Rattle.std.specs.Prelude.{◌≡◌, ◌%◌, ◌^◌, length};
+ghost use Rattle.std.specs.Prelude.{◌≡◌, ◌%◌, ◌^◌};
 ghost use Rattle.vector_text.specs.Hex.{value_of};
 ghost use Rattle.vector_text.specs.Fields.{fields, field_of, is_number, is_bytes, sort_of, is_of, formed};
 
@@ -39,22 +39,23 @@ fn is_of(text: &[u8], sort: u8) -> bool
     }
 }
 
-/// How many fields a line has.
-fn count(line: &[u8]) -> usize
-    ensures { result ≡ length (fields line.now) }
-{
-    line.split(|&b| b == b'\t').count()
-}
-
 /// Whether a line has just the fields that the letters stand for, one a letter.
+// Field by field: what lies behind the first one that is wrong, or one too many, is not looked at.
 pub fn has_form(line: &[u8], sorts: &[u8]) -> bool
     ensures { result ≡ formed (fields line.now) sorts.now }
 {
-    count(line) == sorts.len()
-        && line
-            .split(|&b| b == b'\t')
-            .zip(sorts)
-            .all(|(text, &sort)| is_of(text, sort))
+    let mut left = Some(line);
+    for &sort in sorts {
+        let Some(rest) = left else {
+            return false;
+        };
+        let text = field(rest, 1);
+        if !is_of(text, sort) {
+            return false;
+        }
+        left = rest.get(text.len() + 1..);
+    }
+    left.is_none()
 }
 
 /// The field of a number, the first being 1; nothing if the line has fewer.

@@ -1,22 +1,23 @@
 -- `vector_text::fields::has_form` meets its contract: as many fields as letters, each of its letter's sort. Assumes nothing.
-use Rattle.std.proofs.Common.{◌≡◌, length, eqb, ne_eqb, sym, ◌∙◌, rules, tests}
-use Rattle.std.proofs.lemmas.Iterator.{YieldsList-from_slice, YieldsList-from_zip}
-use Rattle.std.proofs.lemmas.Iterator.Consumers.{YieldsList-at}
-use Rattle.std.proofs.lemmas.Iterator.Search.{all_from_yields_List}
-use Rattle.std.proofs.lemmas.Iterator.Splits.{YieldsList-from_slice_split}
-use Rattle.vector_text.specs.Fields.{tab, fields}
-use Rattle.vector_text.proofs.Parts.{fields_split, fits_letter, formed_zip, formed_other}
+use Rattle.std.proofs.Common.{length, sym, ◌∙◌, ◌+◌, true, false, drop_of_length-le}
+use Rattle.vector_text.proofs.Parts.{left_behind, formed_more, no_field, no_letter}
 use Rattle.vector_text.proofs.fields.has_form.Goals as goal
 
-pub returns-then-count-sorts : goal.returns-then-count-sorts
-returns-then-count-sorts c =
-    let long : length (fields c.args.line.now) ≡ length c.args.sorts.now = sym c.count.ensures ∙ c.if-count-sorts.true in
-    rw (formed_zip (fields c.args.line.now) c.args.sorts.now long, fields_split c.args.line.now)
-    (all_from_yields_List fits_letter c.all.new.self _ _ c.all.ensures.ran
-    (YieldsList-from_zip
-    (YieldsList-at c.zip.ensures.first (YieldsList-from_slice_split _ (λ b. eqb b tab) c.args.line.now c.split.ensures.rest c.split.ensures.done c.split.ensures.closure (λ x r q k. search (rules, tests))))
-    (YieldsList-from_slice c.args.sorts.now cc))
-    (λ x b q k. search (rules, tests)))
+pub returns-in_default : goal.returns-in_default
+returns-in_default c = no_field c.args.sorts.now c.loop-sort.sort-index c.loop-sort-test.true ∙ (rw c.in_default.is at c.loop-sort.invariant)
 
-pub returns-else-count-sorts : goal.returns-else-count-sorts
-returns-else-count-sorts c = ne_eqb _ _ c.if-count-sorts.false ∙ formed_other (fields c.args.line.now) c.args.sorts.now (λ e. c.if-count-sorts.false (c.count.ensures ∙ e))
+pub returns-then-not-is_of : goal.returns-then-not-is_of
+returns-then-not-is_of c =
+    let wrong = formed_more c.in-Some.rest.now c.args.sorts.now c.loop-sort.sort-index c.field-text.result.now false c.loop-sort-test.true c.field-text.ensures (sym c.if-not-is_of.true ∙ c.is_of.ensures) in
+    sym wrong ∙ (rw c.in-Some.is at c.loop-sort.invariant)
+
+pub loop-sort-preserved : goal.loop-sort-preserved
+loop-sort-preserved c =
+    let right = formed_more c.in-Some.rest.now c.args.sorts.now c.loop-sort.sort-index c.field-text.result.now true c.loop-sort-test.true c.field-text.ensures (sym c.if-not-is_of.false ∙ c.is_of.ensures) in
+    rw (left_behind c.in-Some.rest.now (length c.field-text.result.now + 1) c.get-left.result c.get-left.ensures.lookup.0)
+    (sym right ∙ (rw c.in-Some.is at c.loop-sort.invariant))
+
+pub returns : goal.returns
+returns c =
+    no_letter c.loop-sort.left c.is_none.result c.is_none.ensures
+    ∙ (rw (drop_of_length-le c.args.sorts.now c.loop-sort-test.false) at c.loop-sort.invariant)
