@@ -4,7 +4,7 @@
 mod lines;
 mod verdict;
 
-ghost use Rattle.std.specs.Prelude.{◌≤◌, length};
+ghost use Rattle.std.specs.Prelude.{◌≡◌, ◌≤◌, length};
 ghost use Rattle.listing_text.specs.Listing.{longest, Listed};
 
 use crate::verdict::put_text;
@@ -24,6 +24,13 @@ pub fn list(code: &[u8], marks: &mut [u8], out: &mut [u8]) -> usize
     text.at
 }
 
+/// Room for the bytes of a block and one more, or for their marks.
+fn block_buffer() -> [u8; 65537]
+    ensures { 65537 ≡ length result }
+{
+    [0; 65537]
+}
+
 /// Writes the listing of a block, by way of a buffer in which no text is cut.
 fn write_list(code: &[u8], marks: &mut [u8], out: &mut [u8], to: &impl Print)
     requires { longest ≤ length out.old }
@@ -41,9 +48,9 @@ fn write_whole(code: &[u8], marks: &mut [u8], out: &mut [u8; 786468], to: &impl 
 /// Lists the code that is read: one byte more than a block may have is enough to refuse it. A write that fails is dropped, and a read that fails ends the input.
 // Fixed buffers: this cannot fail, as a `Vec` can, and `read_to_end` would read on after an interrupted read.
 pub fn list_input<R: Read>(from: &mut R, to: &impl Print) {
-    let mut code = [0u8; 65537];
+    let mut code = block_buffer();
     let size = read_full(from, &mut code);
-    let mut marks = [0u8; 65537];
+    let mut marks = block_buffer();
     let mut out = [0u8; 786468];
     write_whole(&code[..size], &mut marks[..size], &mut out, to);
 }

@@ -3,7 +3,7 @@
 
 ghost use Rattle.std.specs.Prelude.{◌≤◌, length, IfSome};
 ghost use Rattle.text.specs.Written.{Adds};
-ghost use Rattle.unhex_text.specs.Unhexing.{code_line, Tells, Unhexed};
+ghost use Rattle.unhex_text.specs.Unhexing.{code_line, longest, Tells, Unhexed};
 
 use std::io::Read;
 use streams::read_full;
@@ -57,8 +57,9 @@ pub fn unhex(text: &[u8], code: &mut [u8], line: &mut [u8]) -> Ends
     }
 }
 
-/// Reads a file by way of a buffer for its text, and answers it.
+/// Reads a file by way of a buffer for its text, and answers it, by way of a buffer in which no line is cut.
 fn answer_by<R: Read>(from: &mut R, text: &mut [u8], code: &mut [u8], line: &mut [u8]) -> Ends
+    requires { longest ≤ length line.old }
     ensures code { IfSome result.code (λ size. size ≤ length code.new) }
     ensures line { result.line ≤ length line.new }
 {
@@ -74,6 +75,7 @@ fn answer_whole<R: Read>(
     code: &mut [u8],
     line: &mut [u8],
 ) -> Ends
+    requires { longest ≤ length line.old }
     ensures code { IfSome result.code (λ size. size ≤ length code.new) }
     ensures line { result.line ≤ length line.new }
 {
@@ -83,6 +85,7 @@ fn answer_whole<R: Read>(
 /// Reads a file, and answers it.
 // A fixed buffer: the functions over this cannot fail, as a `Vec` can, and `read_to_end` would read on after an interrupted read.
 fn answer<R: Read>(from: &mut R, code: &mut [u8], line: &mut [u8]) -> Ends
+    requires { longest ≤ length line.old }
     ensures code { IfSome result.code (λ size. size ≤ length code.new) }
     ensures line { result.line ≤ length line.new }
 {
@@ -90,11 +93,14 @@ fn answer<R: Read>(from: &mut R, code: &mut [u8], line: &mut [u8]) -> Ends
     answer_whole(from, &mut text, code, line)
 }
 
+/// As long as the longest line.
+const LINE: usize = 34;
+
 /// Writes the code of the hex file that is read to `out`, or why it is refused to `err`. A write that fails is dropped, and a read that fails ends the input.
 // Fixed buffers, as in `answer`; 65,536 bytes, the most that `intel_hex` fills, which keeps its bound to itself.
 pub fn unhex_input<R: Read>(from: &mut R, out: &impl Print, err: &impl Print) {
     let mut code = [0u8; 65536];
-    let mut line = [0u8; 34];
+    let mut line = [0u8; LINE];
     let ends = answer(from, &mut code, &mut line);
     match ends.code {
         Some(size) => out.write_all(&code[..size]).ok(),
@@ -106,7 +112,7 @@ pub fn unhex_input<R: Read>(from: &mut R, out: &impl Print, err: &impl Print) {
 // Fixed buffers, as in `unhex_input`.
 pub fn say_file<R: Read>(from: &mut R, out: &impl Print) {
     let mut code = [0u8; 65536];
-    let mut line = [0u8; 34];
+    let mut line = [0u8; LINE];
     let ends = answer(from, &mut code, &mut line);
     out.write_all(&line[..ends.line]).ok();
 }
