@@ -3,7 +3,7 @@
 #![tactic(auto)]
 
 use blockcheck::CODE;
-use machine::memory::Memory;
+use machine::memory::load;
 use machine::registers::{EAX, ECX, EDI, ESI};
 use run::{Lent, Ran, run};
 use scalar::Xmm;
@@ -26,38 +26,46 @@ fn byte_at(at: usize) -> u8 {
 }
 
 /// The doubleword at an address of the data, 0 outside.
-fn word_at(area: &mut [u8], a: u32) -> u32 {
-    let memory = Memory {
-        constants: b"",
-        area,
-    };
-    memory.load(Size::Dword, a).unwrap_or(0)
+fn word_at(area: &[u8], a: u32) -> u32 {
+    load(b"", area, Size::Dword, a).unwrap_or(0)
+}
+
+/// Writes a decimal field and what parts it from what follows.
+// Piece by piece, here and in `hex_field`: one that can't be written is dropped by itself.
+fn decimal_field(to: &impl Print, n: u64, parted: &str) {
+    print!(to; "{n}").ok();
+    print!(to; "{parted}").ok();
+}
+
+/// Writes a field of eight hex digits and what parts it from what follows.
+fn hex_field(to: &impl Print, n: u32, parted: &str) {
+    print!(to; "{n:08X}").ok();
+    print!(to; "{parted}").ok();
 }
 
 /// The line of a half of case 10: number, EIP, ECX, ESI and EDI, the last word that was moved and the one behind it.
 fn say_half(to: &impl Print, r: &Ran, last: u32, behind: u32) {
     let m = &r.machine;
-    println!(to;
-        "10\t{}\t{:08X}\t{}\t{:08X}\t{:08X}\t{last:08X}\t{behind:08X}",
-        r.number(),
-        m.eip,
-        m.regs[ECX as usize],
-        m.regs[ESI as usize],
-        m.regs[EDI as usize],
-    )
-    .ok();
+    decimal_field(to, 10, "\t");
+    decimal_field(to, u64::from(r.number()), "\t");
+    hex_field(to, m.eip, "\t");
+    decimal_field(to, u64::from(m.regs[ECX as usize]), "\t");
+    hex_field(to, m.regs[ESI as usize], "\t");
+    hex_field(to, m.regs[EDI as usize], "\t");
+    hex_field(to, last, "\t");
+    hex_field(to, behind, "\n");
 }
 
 /// F3 A5, 25 doublewords from 00100000h to 00100100h, with 512 data bytes: budget 10, and then 15.
 fn halves(to: &impl Print, code: &[u8]) {
     let mut area: [u8; 512] = array::from_fn(byte_at);
     let first = run(lent(25, 0x0010_0000, 0x0010_0100), code, b"", &mut area, 10);
-    let last = word_at(&mut area, 0x0010_0124);
-    let behind = word_at(&mut area, 0x0010_0128);
+    let last = word_at(&area, 0x0010_0124);
+    let behind = word_at(&area, 0x0010_0128);
     say_half(to, &first, last, behind);
     let second = run(first.machine, code, b"", &mut area, 15);
-    let last = word_at(&mut area, 0x0010_0160);
-    let behind = word_at(&mut area, 0x0010_0164);
+    let last = word_at(&area, 0x0010_0160);
+    let behind = word_at(&area, 0x0010_0164);
     say_half(to, &second, last, behind);
 }
 
@@ -71,23 +79,23 @@ fn stopped(to: &impl Print, code: &[u8]) {
         &mut area,
         100,
     );
-    let last = word_at(&mut area, 0x0010_015C);
-    let steps = r.steps;
-    let ecx = r.machine.regs[ECX as usize];
-    println!(to;
-        "11\t{steps}\t{}\t{:08X}\t{ecx}\t{last:08X}",
-        r.number(),
-        r.address(),
-    )
-    .ok();
+    let last = word_at(&area, 0x0010_015C);
+    decimal_field(to, 11, "\t");
+    decimal_field(to, r.steps, "\t");
+    decimal_field(to, u64::from(r.number()), "\t");
+    hex_field(to, r.address(), "\t");
+    decimal_field(to, u64::from(r.machine.regs[ECX as usize]), "\t");
+    hex_field(to, last, "\n");
 }
 
 /// 8B 06 with the 8 data bytes 11h to 88h, at one ESI: number, address and EAX.
 fn reads(to: &impl Print, code: &[u8], esi: u32) {
     let mut area = [0x11u8, 0x22, 0x33, 0x44, 0x55, 0x66, 0x77, 0x88];
     let r = run(lent(0, esi, 0), code, b"", &mut area, 1);
-    let eax = r.machine.regs[EAX as usize];
-    println!(to; "12\t{}\t{:08X}\t{eax:08X}", r.number(), r.address()).ok();
+    decimal_field(to, 12, "\t");
+    decimal_field(to, u64::from(r.number()), "\t");
+    hex_field(to, r.address(), "\t");
+    hex_field(to, r.machine.regs[EAX as usize], "\n");
 }
 
 fn main(rt: HostRuntime) {

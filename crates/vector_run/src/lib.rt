@@ -8,10 +8,15 @@ mod taken;
 mod tally;
 
 use crate::reading::take_all;
+use crate::tally::Tally;
 use std::io::Read;
 
 /// Judges all cases that are read, and tells their count. A write that fails is dropped, and a read that fails ends the input.
 pub fn judge_input<R: Read>(from: &mut R, to: &impl Print) {
-    let tally = take_all(from, to);
-    println!(to; "{tally}").ok();
+    let Tally { cases, differing } = take_all(from, to);
+    // Piece by piece, as in `say_difference`.
+    print!(to; "{cases}").ok();
+    print!(to; " cases, ").ok();
+    print!(to; "{differing}").ok();
+    print!(to; " differ\n").ok();
 }

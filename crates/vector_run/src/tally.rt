@@ -4,13 +4,28 @@ ghost use Rattle.std.specs.Prelude.{◌≡◌};
 ghost use Rattle.vector_run.specs.Counts.{counted};
 
 use crate::difference::Difference;
-use std::fmt;
 
 /// The cases so far, and how many of them differ.
 #[derive(Clone, Copy, Debug, PartialEq, Eq)]
 pub struct Tally {
     pub cases: u64,
     pub differing: u64,
+}
+
+/// Writes the line of a case that differs.
+// Piece by piece: one that can't be written is dropped by itself.
+fn say_difference(to: &impl Print, case: u64, difference: Difference) {
+    print!(to; "{case}").ok();
+    match difference {
+        Difference::Field(_) => {
+            print!(to; " ").ok();
+            print!(to; "{difference}").ok();
+            print!(to; "\n").ok();
+        }
+        Difference::Malformed => {
+            print!(to; " {difference}\n").ok();
+        }
+    }
 }
 
 impl Tally {
@@ -22,16 +37,10 @@ impl Tally {
         match finding {
             Ok(()) => Tally { cases, ..self },
             Err(difference) => {
-                println!(to; "{cases} {difference}").ok();
+                say_difference(to, cases, difference);
                 let differing = self.differing.wrapping_add(1);
                 Tally { cases, differing }
             }
         }
-    }
-}
-
-impl fmt::Display for Tally {
-    fn fmt<W: fmt::Write>(&self, f: &mut fmt::Formatter<W>) -> fmt::Result {
-        write!(f, "{} cases, {} differ", self.cases, self.differing)
     }
 }
