@@ -38,7 +38,7 @@ pub enum Single {
 }
 
 /// A value, and the word of the flags that come with it.
-// A plain word, and no `flags::Word`, which is not Copy.
+// A plain word: the clauses say by it what flags it means (`Works`).
 #[derive(Clone, Copy, Debug, PartialEq, Eq)]
 pub struct Worked {
     pub value: u32,
