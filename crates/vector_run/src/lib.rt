@@ -16,7 +16,7 @@ pub fn judge_input<R: Read>(from: &mut R, to: &impl Print) {
     let Tally { cases, differing } = take_all(from, to);
     // Piece by piece, as in `say_difference`.
     print!(to; "{cases}").ok();
-    print!(to; " cases, ").ok();
+    to.write_all(b" cases, ").ok();
     print!(to; "{differing}").ok();
-    print!(to; " differ\n").ok();
+    to.write_all(b" differ\n").ok();
 }

@@ -18,12 +18,12 @@ fn say_difference(to: &impl Print, case: u64, difference: Difference) {
     print!(to; "{case}").ok();
     match difference {
         Difference::Field(_) => {
-            print!(to; " ").ok();
+            to.write_all(b" ").ok();
             print!(to; "{difference}").ok();
-            print!(to; "\n").ok();
+            to.write_all(b"\n").ok();
         }
         Difference::Malformed => {
-            print!(to; " {difference}\n").ok();
+            to.write_all(b" malformed\n").ok();
         }
     }
 }
