@@ -23,6 +23,7 @@ fn say_difference(to: &impl Print, case: u64, difference: Difference) {
             to.write_all(b"\n").ok();
         }
         Difference::Malformed => {
+            // The words as bytes: where every line is malformed, formatting them takes a third longer.
             to.write_all(b" malformed\n").ok();
         }
     }
